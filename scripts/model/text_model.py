@@ -356,17 +356,19 @@ def message_lines(b):
 # ---- commands: what each writes for a document, or a message, and then of a fault
 
 
+class NotHex(Exception):
+    """Text spells no bytes, since it has a fault at this place."""
+
+
 def read_hex(text):
-    """Returns the bytes that the text spells up to its fault, and the place of that, if it has one."""
+    """Returns the bytes that the text spells."""
     left = re.sub(rb"[ \t\r\n]", b"", text)
-    digits = re.match(rb"[0-9a-fA-F]*", left).group()
-    spelled = bytes.fromhex(digits[: len(digits) // 2 * 2].decode())
-    return spelled, len(digits) if len(digits) % 2 or len(digits) < len(left) else None
-
-
-def is_open(b):
-    """Returns whether more bytes would decide what document begins with these."""
-    return len(b) < 4 or 5 <= number(b, 0) < 2**31 and len(b) < number(b, 0)
+    if len(left) % 2 == 1:
+        raise NotHex(len(left))
+    other = re.search(rb"[^0-9a-fA-F]", left)
+    if other:
+        raise NotHex(other.start())
+    return bytes.fromhex(left.decode("ascii"))
 
 
 # The commands over a FILE.
@@ -490,7 +492,10 @@ def output(command, flags, given):
     if "--salvage" in flags:
         return salvaged(command, given)
     is_hex, is_array = "--hex" in flags, "--array" in flags
-    b, place = read_hex(given) if is_hex else (given, None)
+    try:
+        b = read_hex(given) if is_hex else given
+    except NotHex as found:
+        return b"fault 0 Hex at %d\n" % found.args[0], 1
     is_file = command in ("msg", "json") and b.startswith(SIGNATURE)
     at, text, fault = len(SIGNATURE) if is_file else 0, b"", None
     while at < len(b) and not fault:
@@ -503,8 +508,6 @@ def output(command, flags, given):
             text, at = text + part, at + (length or 0)
         except (Bad, BadMessage, BadRecord) as found:
             fault = found.line(at)
-    if place is not None and (not fault or fault.startswith("14 ") or command != "msg" and not is_file and is_open(b[at:])):
-        fault = f"0 Hex at {place}"
     if command == "canon" and is_hex and text:
         text = text.hex().encode() + b"\n"
     if is_array:

@@ -29,10 +29,10 @@ use Rattle.engines.specs.declared.msg.MessageForm.TheVariants.{Text as in_text, 
 use Rattle.engines.specs.declared.record_text.RecordForm.TheVariants as records
 use Rattle.engines.specs.{AllBson, AllFrames, AllMessages, AllOrRecords, AllTexts, AnyText}
 use Rattle.engines.specs.{BsonText, CanonText, CheckText, DumpText, FirstBson, FirstFrames}
-use Rattle.engines.specs.{FirstMessages}
-use Rattle.engines.specs.{FirstOrRecords, FirstSalvaged, FirstTexts, IsOutput, JsonText}
+use Rattle.engines.specs.{FirstMessages, FirstOrRecords, FirstSalvaged, FirstTexts, IsAllOf}
+use Rattle.engines.specs.{IsFirstOf, IsOutput, JsonText}
 use Rattle.engines.specs.{MayBeJson, MsgText, SalvageText, SalvagedSoFar, ScriptText}
-use Rattle.engines.specs.{TextOrRecords, as_messages, bytes_of, canon_of, check_of, dump_of}
+use Rattle.engines.specs.{TextOrRecords, as_messages, canon_of, check_of, dump_of}
 use Rattle.engines.specs.{told_at, told_by}
 
 -- ---- what the matches of a subcommand hold
@@ -277,41 +277,36 @@ CommandText (Any hex) = IsOutput (TextOrRecords records.Text AnyText) hex
 CommandText Play = ScriptText
 
 -- Whether these are the texts of the first few documents, messages or records in an input, if a
--- command reads it piece by piece.
+-- command reads it piece by piece or as hexadecimal text.
 abbrev pub FirstOf : Command → List ℕ → List ℕ → Type 0
-FirstOf (Dump hex offsets) = λ input. FirstTexts (told_at (dump_of offsets)) (bytes_of hex input)
-FirstOf (Check Bytes) = FirstTexts (told_by check_of)
-FirstOf (Check Hex) = λ input. FirstTexts (told_by check_of) (bytes_of true input)
+FirstOf (Dump hex offsets) = IsFirstOf (FirstTexts (told_at (dump_of offsets))) hex
+FirstOf (Check Bytes) = IsFirstOf (FirstTexts (told_by check_of)) false
+FirstOf (Check Hex) = IsFirstOf (FirstTexts (told_by check_of)) true
 FirstOf (Check Salvage) = FirstSalvaged (told_by check_of) true 16793600
-FirstOf (Canon Bytes) = FirstTexts (told_by (canon_of 2147483647 false))
-FirstOf (Canon Hex) =
-    λ input. FirstTexts (told_by (canon_of 2147483647 true)) (bytes_of true input)
+FirstOf (Canon Bytes) = IsFirstOf (FirstTexts (told_by (canon_of 2147483647 false))) false
+FirstOf (Canon Hex) = IsFirstOf (FirstTexts (told_by (canon_of 2147483647 true))) true
 FirstOf (Canon Salvage) = FirstSalvaged (told_by (canon_of 2147483647 false)) false 16793600
-FirstOf (Json hex mode layout) =
-    λ input. FirstOrRecords (records.Json mode layout) (FirstTexts (MayBeJson mode layout))
-    (bytes_of hex input)
+FirstOf (Json hex mode layout) = IsFirstOf
+    (FirstOrRecords (records.Json mode layout) (FirstTexts (MayBeJson mode layout))) hex
 FirstOf Bson = FirstBson
-FirstOf (Msg hex form) =
-    λ input. FirstOrRecords (as_messages form) (FirstMessages form) (bytes_of hex input)
-FirstOf (Any hex) = λ input. FirstOrRecords records.Text FirstFrames (bytes_of hex input)
+FirstOf (Msg hex form) = IsFirstOf (FirstOrRecords (as_messages form) (FirstMessages form)) hex
+FirstOf (Any hex) = IsFirstOf (FirstOrRecords records.Text FirstFrames) hex
 FirstOf _ = λ input texts. ⊥
 
--- Whether these are the texts of all of them, up to the first fault.
+-- Whether these are the texts of all of them, up to the first fault, and with `--hex` none.
 abbrev pub AllOf : Command → List ℕ → List ℕ → Type 0
-AllOf (Dump hex offsets) = λ input. AllTexts (told_at (dump_of offsets)) (bytes_of hex input)
-AllOf (Check Bytes) = AllTexts (told_by check_of)
-AllOf (Check Hex) = λ input. AllTexts (told_by check_of) (bytes_of true input)
+AllOf (Dump hex offsets) = IsAllOf (AllTexts (told_at (dump_of offsets))) hex
+AllOf (Check Bytes) = IsAllOf (AllTexts (told_by check_of)) false
+AllOf (Check Hex) = IsAllOf (AllTexts (told_by check_of)) true
 AllOf (Check Salvage) = SalvagedSoFar (told_by check_of) true 16793600
-AllOf (Canon Bytes) = AllTexts (told_by (canon_of 2147483647 false))
-AllOf (Canon Hex) = λ input. AllTexts (told_by (canon_of 2147483647 true)) (bytes_of true input)
+AllOf (Canon Bytes) = IsAllOf (AllTexts (told_by (canon_of 2147483647 false))) false
+AllOf (Canon Hex) = IsAllOf (AllTexts (told_by (canon_of 2147483647 true))) true
 AllOf (Canon Salvage) = SalvagedSoFar (told_by (canon_of 2147483647 false)) false 16793600
-AllOf (Json hex mode layout) =
-    λ input. AllOrRecords (records.Json mode layout) (AllTexts (MayBeJson mode layout))
-    (bytes_of hex input)
+AllOf (Json hex mode layout) = IsAllOf
+    (AllOrRecords (records.Json mode layout) (AllTexts (MayBeJson mode layout))) hex
 AllOf Bson = AllBson
-AllOf (Msg hex form) =
-    λ input. AllOrRecords (as_messages form) (AllMessages form) (bytes_of hex input)
-AllOf (Any hex) = λ input. AllOrRecords records.Text AllFrames (bytes_of hex input)
+AllOf (Msg hex form) = IsAllOf (AllOrRecords (as_messages form) (AllMessages form)) hex
+AllOf (Any hex) = IsAllOf (AllOrRecords records.Text AllFrames) hex
 AllOf _ = λ input texts. ⊥
 
 -- whether a command reads all of its input before it writes

@@ -1,5 +1,5 @@
 -- Bytes have one text at most as messages of any opCode.
-use Rattle.std.proofs.Common.{◌≡◌, inl, inr, ◌+◌, ◌≤◌, ◌++◌, ℕ, List, Bool, Option, length, refl, sym, ap, subst, ◌∙◌}
+use Rattle.std.proofs.Common.{◌≡◌, inl, inr, ◌+◌, ◌≤◌, ◌++◌, ℕ, List, Bool, length, refl, sym, ap, subst, ◌∙◌}
 use Rattle.bson_elem.specs.Spelling.{IsBytes}
 use Rattle.wire_msg.specs.declared.fault.MsgFault.{MsgFault}
 use Rattle.wire_msg.specs.{header_of}
@@ -46,6 +46,6 @@ frames_told = record {
   bad_not_text = λ start frame rest line text fits bad is t. lacking_not_whole 48000000 (frame ++ rest) frame rest bad.0 (record { parts = refl; is = is });
 }
 
-pub one_any_text : (place : Option ℕ) (bytes text text' : List ℕ) (fault fault' : Bool) → IsBytes bytes
-    → AnyText place bytes text fault → AnyText place bytes text' fault' → (text ≡ text') × (fault ≡ fault')
+pub one_any_text : (bytes text text' : List ℕ) (fault fault' : Bool) → IsBytes bytes
+    → AnyText bytes text fault → AnyText bytes text' fault' → (text ≡ text') × (fault ≡ fault')
 one_any_text = one_items_text (frames_of 48000000) (frames_kind 48000000) frames_told 0 nothing

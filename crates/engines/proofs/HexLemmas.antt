@@ -1,148 +1,144 @@
--- Hexadecimal text, one piece after another.
-use Rattle.std.proofs.Common.{◌≡◌, ◌<◌, ◌++◌, [], ◌∷◌, ◌+◌, ◌*◌, ◌%◌, ℕ, suc, List, Option, IfSome, None, Some, true, false, refl, sym, ap, ◌∙◌, append_assoc, append-nil, arith}
-use Rattle.std.proofs.lemmas.Bool.{le-ltb, lt-ltb, ne_eqb}
-use Rattle.std.specs.Prelude.{option_map, take, take_while}
-use Rattle.std.specs.List.{prefix_len}
+-- Hexadecimal text, one byte after another.
+use Rattle.std.proofs.Common.{◌≡◌, ◌<◌, ◌++◌, [], ◌∷◌, ◌+◌, ◌*◌, ◌⊎◌, inl, inr, ℕ, List, Option, Bool, IfSome, None, Some, Result, Ok, Err, OnOk, drop, get_or, not, take, true, false, if◌then◌else◌, is_some, length, refl, sym, ap, subst, ◌∙◌, append_assoc, append-nil, arith, length-append}
+use Rattle.std.proofs.lemmas.Bool.{cases_Bool, le-ltb, lt-ltb}
+use Rattle.std.proofs.lemmas.List.{drop_all, take_all, take_more}
+use Rattle.std.proofs.lemmas.List.Elements.{filter-append}
 use Rattle.std.specs.Char.{digit_value}
+use Rattle.std.specs.List.{position_from}
 use Rattle.engines.specs.declared.hex_input.HexText.{HexText}
-use Rattle.engines.specs.Input.{IsDecoded, IsNotHex, StandsBehind, bytes_of, digits_of, fault_behind, is_hex, first_digit, is_space, packed, pairs, pairs_behind}
+use Rattle.engines.specs.Input.{IsDecoded, byte_behind, half_behind, half_of, is_other, is_space, packed, pairs}
 
--- ---- one byte of text
+-- ---- one digit more
 
--- what text spells behind the first digit of a byte
-abbrev pub spelled_behind : Option ℕ → List ℕ → List ℕ
-spelled_behind high text = pairs_behind high (digits_of text)
+pub pairs_more : (digits : List ℕ) (d : ℕ) → pairs (digits ++ d ∷ []) ≡ pairs digits ++ byte_behind (half_of digits) (digit_value d)
+pairs_more [] d = refl
+pairs_more (high ∷ []) d = refl
+pairs_more (high ∷ (low ∷ digits)) d = ap (λ (x : List ℕ). (digit_value high * 16 + digit_value low) ∷ x) (pairs_more digits d)
 
--- A byte of text was taken, behind so many digits, and spelled this.
-pub record Takes (high : Option ℕ) (n b : ℕ) (out : List ℕ) (high' : Option ℕ) (n' : ℕ) : Type 0 where
-  pub bytes : (text : List ℕ) → spelled_behind high (b ∷ text) ≡ out ++ spelled_behind high' text
-  pub fault : (place : Option ℕ) (text : List ℕ) → fault_behind place n (packed (b ∷ text)) ≡ fault_behind place n' (packed text)
+pub half_more : (digits : List ℕ) (d : ℕ) → half_of (digits ++ d ∷ []) ≡ half_behind (half_of digits) (digit_value d)
+half_more [] d = refl
+half_more (high ∷ []) d = refl
+half_more (high ∷ (low ∷ digits)) d = half_more digits d
 
-pub takes_space : (high : Option ℕ) (n b : ℕ) → is_space b ≡ true → Takes high n b [] high n
-takes_space high n b is = record { bytes = λ text. rw is refl; fault = λ place text. rw is refl }
+-- ---- the first byte that is no digit
 
-one_more : (n b : ℕ) (text : List ℕ) → take (1 + n) (b ∷ text) ≡ b ∷ take n text
-one_more n b text = let same : 1 + n ≡ suc n = omega arith in ap (λ (k : ℕ). take k (b ∷ text)) same
+-- the search in front of one byte, and behind it
+found_at : (i : ℕ) (x : ℕ) (text : List ℕ) → is_other x ≡ true → position_from is_other i (x ∷ text) ≡ Some i
+found_at i x text e = rw e refl
 
--- one digit more in front
-one_digit : (b : ℕ) (text : List ℕ) → is_hex b ≡ true → take_while is_hex (b ∷ text) ≡ b ∷ take_while is_hex text
-one_digit b text digit = rw digit (one_more (prefix_len is_hex text) b text)
+found_behind : (i : ℕ) (x : ℕ) (text : List ℕ) → is_other x ≡ false → position_from is_other i (x ∷ text) ≡ position_from is_other (i + 1) text
+found_behind i x text e = rw e refl
 
-first_of_two : (b : ℕ) (digits : List ℕ) → pairs (b ∷ digits) ≡ pairs_behind (Some (digit_value b)) digits
-first_of_two b [] = refl
-first_of_two b (low ∷ digits) = refl
-
-digit_fault : (place : Option ℕ) (n b : ℕ) (text : List ℕ) → is_space b ≡ false → is_hex b ≡ true → fault_behind place n (packed (b ∷ text)) ≡ fault_behind place (n + 1) (packed text)
-digit_fault None n b text space digit = rw (space, digit) refl
-digit_fault (Some place) n b text space digit = rw (space, digit) refl
-
-pub takes_first : (n b : ℕ) → is_space b ≡ false → is_hex b ≡ true → Takes None n b [] (Some (digit_value b)) (n + 1)
-takes_first n b space digit = record {
-  bytes = λ text. rw space (ap pairs (one_digit b (packed text) digit) ∙ first_of_two b (digits_of text));
-  fault = λ place text. digit_fault place n b text space digit;
-}
-
-pub takes_second : (high n b : ℕ) → is_space b ≡ false → is_hex b ≡ true → Takes (Some high) n b ((high * 16 + digit_value b) ∷ []) None (n + 1)
-takes_second high n b space digit = record {
-  bytes = λ text. rw space (ap (pairs_behind (Some high)) (one_digit b (packed text) digit));
-  fault = λ place text. digit_fault place n b text space digit;
-}
-
--- a digit was taken, and the byte that it completes, if it does, came of it
-abbrev pub completed : Option ℕ → List ℕ
-completed None = []
-completed (Some byte) = byte ∷ []
-
-pub takes_digit : (mid new : HexText) (b digit : ℕ) (whole : Option ℕ) → is_space b ≡ false → digit_value b < 16 → digit ≡ digit_value b → whole ≡ option_map (λ high. high * 16 + digit) mid.high
-    → new.high ≡ first_digit mid.high digit → new.digits ≡ mid.digits + 1 → Takes mid.high mid.digits b (completed whole) new.high new.digits × IfSome new.high (λ high. high < 16)
-takes_digit mid new b digit whole space small value completes first count = go mid.high refl
+other_stays : (i p : ℕ) (text : List ℕ) (b : ℕ) → position_from is_other i text ≡ Some p → position_from is_other i (text ++ b ∷ []) ≡ Some p
+other_stays i p [] b is = absurd cc
+other_stays i p (x ∷ text) b is = by (cases_Bool (is_other x)) (other_stays (i + 1) p text b)
   where
-    is_digit : is_hex b ≡ true
-    is_digit = lt-ltb (digit_value b) 16 small
+    by : (is_other x ≡ true) ⊎ (is_other x ≡ false) → (position_from is_other (i + 1) text ≡ Some p → position_from is_other (i + 1) (text ++ b ∷ []) ≡ Some p) → position_from is_other i ((x ∷ text) ++ b ∷ []) ≡ Some p
+    by (inl e) behind = found_at i x (text ++ b ∷ []) e ∙ sym (found_at i x text e) ∙ is
+    by (inr e) behind = found_behind i x (text ++ b ∷ []) e ∙ behind (sym (found_behind i x text e) ∙ is)
 
-    go : (high : Option ℕ) → mid.high ≡ high → Takes mid.high mid.digits b (completed whole) new.high new.digits × IfSome new.high (λ high. high < 16)
-    go None is =
-        let high' : new.high ≡ Some (digit_value b) = first ∙ ap (λ (h : Option ℕ). first_digit h digit) is ∙ ap Some value in
-        let none : whole ≡ None = completes ∙ ap (option_map (λ high. high * 16 + digit)) is in
-        rw (is, none, high', count) (takes_first mid.digits b space is_digit, small)
-    go (Some h) is =
-        let high' : new.high ≡ None = first ∙ ap (λ (h : Option ℕ). first_digit h digit) is in
-        let some : whole ≡ Some (h * 16 + digit_value b) = completes ∙ ap (option_map (λ high. high * 16 + digit)) is ∙ ap (λ (d : ℕ). Some (h * 16 + d)) value in
-        rw (is, some, high', count) (takes_second h mid.digits b space is_digit, tt)
+-- what the search behind text without another byte finds of one byte more
+abbrev found_last : ℕ → ℕ → Option ℕ
+found_last n b = if is_other b then Some n else None
 
-not_below : (b : ℕ) → (digit_value b < 16 → ⊥) → is_hex b ≡ false
-not_below b other = le-ltb (digit_value b) 16 (let h = other in omega (arith, h))
+some_is_none : {A : Type 0} (x : A) → Some x ≡ None → ⊥
+some_is_none x e = absurd cc
 
--- a byte that is no digit
-none_spelled : (high : Option ℕ) (b : ℕ) (text : List ℕ) → is_space b ≡ false → is_hex b ≡ false → spelled_behind high (b ∷ text) ≡ []
-none_spelled None b text space digit = rw (space, digit) refl
-none_spelled (Some high) b text space digit = rw (space, digit) refl
-
-other_fault : (place : Option ℕ) (n b : ℕ) (text : List ℕ) → is_space b ≡ false → is_hex b ≡ false → fault_behind place n (packed (b ∷ text)) ≡ Some n
-other_fault None n b text space digit = rw (space, digit) refl
-other_fault (Some place) n b text space digit = rw (space, digit) refl
-
--- ---- a piece
-
--- The front of a piece, up to this rest, was decoded, and spelled this.
-pub record Decodes (old : HexText) (piece out : List ℕ) (new : HexText) (rest : List ℕ) : Type 0 where
-  pub digit : IfSome new.high (λ high. high < 16)
-  pub bytes : (more : List ℕ) → spelled_behind old.high (piece ++ more) ≡ out ++ spelled_behind new.high (rest ++ more)
-  pub fault : (place : Option ℕ) (more : List ℕ) → fault_behind place old.digits (packed (piece ++ more)) ≡ fault_behind place new.digits (packed (rest ++ more))
-
-pub decodes_none : (hex : HexText) (piece : List ℕ) → IfSome hex.high (λ high. high < 16) → Decodes hex piece [] hex piece
-decodes_none hex piece half = record { digit = half; bytes = λ more. refl; fault = λ place more. refl }
-
-pub decodes_byte : (old mid new : HexText) (piece out one : List ℕ) (b : ℕ) (rest : List ℕ) → Decodes old piece out mid (b ∷ rest) → Takes mid.high mid.digits b one new.high new.digits
-    → IfSome new.high (λ high. high < 16) → Decodes old piece (out ++ one) new rest
-decodes_byte old mid new piece out one b rest d t half = record {
-  digit = half;
-  bytes = λ more. d.bytes more ∙ ap (λ (x : List ℕ). out ++ x) (t.bytes (rest ++ more)) ∙ sym (append_assoc out one (spelled_behind new.high (rest ++ more)));
-  fault = λ place more. d.fault place more ∙ t.fault place (rest ++ more);
-}
-
--- text, and then the whole piece
-pub decoded_whole : (old new : HexText) (text piece out : List ℕ) → StandsBehind old text → Decodes old piece out new [] → IsDecoded new text piece out None
-decoded_whole old new text piece out s d =
-    let all : bytes_of true (text ++ piece) ≡ bytes_of true text ++ out =
-    ap (bytes_of true) (sym (append-nil (text ++ piece))) ∙ ap (bytes_of true) (append_assoc text piece [])
-    ∙ s.bytes (piece ++ []) ∙ ap (λ (x : List ℕ). bytes_of true text ++ x) (d.bytes [] ∙ ap (λ (x : List ℕ). out ++ x) (behind_nothing new.high) ∙ append-nil out) in (
-      record {
-        digit = d.digit;
-        bytes = λ more.
-            ap (bytes_of true) (append_assoc text piece more) ∙ s.bytes (piece ++ more) ∙ ap (λ (x : List ℕ). bytes_of true text ++ x) (d.bytes more)
-            ∙ sym (append_assoc (bytes_of true text) out (spelled_behind new.high more)) ∙ ap (λ (x : List ℕ). x ++ spelled_behind new.high more) (sym all);
-        fault = λ place more. ap (λ (x : List ℕ). fault_behind place 0 (packed x)) (append_assoc text piece more) ∙ s.fault place (piece ++ more) ∙ d.fault place more;
-      },
-      all,
-    )
+no_other_before : (i n : ℕ) (text : List ℕ) (b : ℕ) → n ≡ i + length text → position_from is_other i text ≡ None → position_from is_other i (text ++ b ∷ []) ≡ found_last n b
+no_other_before i n [] b is none = ap (λ (k : ℕ). found_last k b) (omega (arith, is))
+no_other_before i n (x ∷ text) b is none = by (cases_Bool (is_other x)) (no_other_before (i + 1) n text b (omega (arith, is)))
   where
-    behind_nothing : (high : Option ℕ) → spelled_behind high [] ≡ []
-    behind_nothing None = refl
-    behind_nothing (Some high) = refl
+    by : (is_other x ≡ true) ⊎ (is_other x ≡ false) → (position_from is_other (i + 1) text ≡ None → position_from is_other (i + 1) (text ++ b ∷ []) ≡ found_last n b) → position_from is_other i ((x ∷ text) ++ b ∷ []) ≡ found_last n b
+    by (inl e) behind = absurd (some_is_none i (sym (found_at i x text e) ∙ none))
+    by (inr e) behind = found_behind i x (text ++ b ∷ []) e ∙ behind (sym (found_behind i x text e) ∙ none)
 
--- text, and then a piece up to a byte that is no digit
-pub decoded_fault : (old new : HexText) (text piece out rest : List ℕ) (b : ℕ) → StandsBehind old text → Decodes old piece out new (b ∷ rest) → is_space b ≡ false → (digit_value b < 16 → ⊥)
-    → IsNotHex (text ++ piece) (bytes_of true text ++ out) new.digits
-decoded_fault old new text piece out rest b s d space other = let digit : is_hex b ≡ false = not_below b other in record {
-  bytes_are = λ more.
-      ap (bytes_of true) (append_assoc text piece more) ∙ s.bytes (piece ++ more)
-      ∙ ap (λ (x : List ℕ). bytes_of true text ++ x) (d.bytes more ∙ ap (λ (x : List ℕ). out ++ x) (none_spelled new.high b (rest ++ more) space digit) ∙ append-nil out);
-  fault_is = λ place more.
-      ap (λ (x : List ℕ). fault_behind place 0 (packed x)) (append_assoc text piece more) ∙ s.fault place (piece ++ more) ∙ d.fault place more
-      ∙ other_fault place new.digits b (rest ++ more) space digit;
-}
+-- ---- one byte more
 
--- where text ends
-ends_so : (hex : HexText) (text : List ℕ) → StandsBehind hex text → fault_behind None 0 (packed text) ≡ fault_behind None hex.digits []
-ends_so hex text s = ap (λ (x : List ℕ). fault_behind None 0 (packed x)) (sym (append-nil text)) ∙ s.fault None []
+one_longer : (text : List ℕ) (b : ℕ) → length (text ++ b ∷ []) ≡ length text + 1
+one_longer text b = length-append text (b ∷ [])
 
-pub ends_odd : (hex : HexText) (text : List ℕ) → StandsBehind hex text → hex.digits % 2 ≡ 1 → fault_behind None 0 (packed text) ≡ Some hex.digits
-ends_odd hex text s odd = ends_so hex text s ∙ rw odd refl
+is_there : {A : Type 0} (o : Option A) → is_some o ≡ true → (x : A) × (o ≡ Some x)
+is_there None is = absurd cc
+is_there (Some x) is = (x, refl)
 
-pub ends_even : (hex : HexText) (text : List ℕ) → StandsBehind hex text → (hex.digits % 2 ≡ 1 → ⊥) → fault_behind None 0 (packed text) ≡ None
-ends_even hex text s even = ends_so hex text s ∙ rw (ne_eqb (hex.digits % 2) 1 even) refl
+pub is_absent : {A : Type 0} (o : Option A) → is_some o ≡ false → o ≡ None
+is_absent None is = refl
+is_absent (Some x) is = absurd cc
 
--- whatever follows text, it spells bytes behind its own
-pub grows : (hex : HexText) (text more : List ℕ) → StandsBehind hex text → (behind : List ℕ) × (bytes_of true (text ++ more) ≡ bytes_of true text ++ behind)
-grows hex text more s = (spelled_behind hex.high more, s.bytes more)
+-- behind a byte that is no digit
+pub takes_on : (old new : HexText) (text : List ℕ) (b : ℕ) → IsDecoded old text → is_some old.other ≡ true → new.other ≡ old.other → new.count ≡ old.count + 1 → new.high ≡ old.high → IsDecoded new (text ++ b ∷ [])
+takes_on old new text b d some other count high =
+    let at = is_there old.other some in
+    let stays : position_from is_other 0 (text ++ b ∷ []) ≡ Some at.0 = other_stays 0 at.0 text b (sym d.other ∙ at.1) in
+    let is : new.other ≡ Some at.0 = other ∙ at.1 in
+    record {
+      count = omega (arith, count, d.count, one_longer text b);
+      other = is ∙ sym stays;
+      bytes = λ none. absurd (some_is_none at.0 (sym is ∙ none));
+      high = λ none. absurd (some_is_none at.0 (sym is ∙ none));
+      half = subst (λ (h : Option ℕ). IfSome h (λ high. high < 16)) (sym high) d.half;
+    }
+
+-- the first byte that is no digit
+pub takes_other : (old new : HexText) (text : List ℕ) (b : ℕ) → IsDecoded old text → old.other ≡ None → (digit_value b < 16 → ⊥) → new.other ≡ Some old.count → new.count ≡ old.count + 1 → new.high ≡ old.high
+    → IsDecoded new (text ++ b ∷ [])
+takes_other old new text b d none large other count high =
+    let is : is_other b ≡ true = rw (le-ltb (digit_value b) 16 (let h = large in omega (arith, h))) refl in
+    let stands : position_from is_other 0 (text ++ b ∷ []) ≡ Some old.count = no_other_before 0 old.count text b (omega (arith, d.count)) (sym d.other ∙ none) ∙ rw is refl in
+    record {
+      count = omega (arith, count, d.count, one_longer text b);
+      other = other ∙ sym stands;
+      bytes = λ none. absurd (some_is_none old.count (sym other ∙ none));
+      high = λ none. absurd (some_is_none old.count (sym other ∙ none));
+      half = subst (λ (h : Option ℕ). IfSome h (λ high. high < 16)) (sym high) d.half;
+    }
+
+small_behind : (high : Option ℕ) (digit : ℕ) → digit < 16 → IfSome (half_behind high digit) (λ high. high < 16)
+small_behind None digit small = small
+small_behind (Some high) digit small = tt
+
+-- a digit
+pub takes_digit : (old new : HexText) (text : List ℕ) (b digit : ℕ) → IsDecoded old text → old.other ≡ None → digit_value b < 16 → digit ≡ digit_value b → new.other ≡ old.other → new.count ≡ old.count + 1
+    → new.bytes.items ≡ old.bytes.items ++ byte_behind old.high digit → new.high ≡ half_behind old.high digit → IsDecoded new (text ++ b ∷ [])
+takes_digit old new text b digit d none small value other count bytes high =
+    let is : is_other b ≡ false = rw (lt-ltb (digit_value b) 16 small) refl in
+    let clear : position_from is_other 0 (text ++ b ∷ []) ≡ None = no_other_before 0 old.count text b (omega (arith, d.count)) (sym d.other ∙ none) ∙ rw is refl in
+    let half : old.high ≡ half_of text = d.high none in
+    record {
+      count = omega (arith, count, d.count, one_longer text b);
+      other = other ∙ none ∙ sym clear;
+      bytes = λ any. bytes ∙ ap (λ (x : List ℕ). x ++ byte_behind old.high digit) (d.bytes none) ∙ ap (λ (x : ℕ). pairs text ++ byte_behind old.high x) value
+          ∙ ap (λ (x : Option ℕ). pairs text ++ byte_behind x (digit_value b)) half ∙ sym (pairs_more text b);
+      high = λ any. high ∙ ap (half_behind old.high) value ∙ ap (λ (x : Option ℕ). half_behind x (digit_value b)) half ∙ sym (half_more text b);
+      half = subst (λ (h : Option ℕ). IfSome h (λ high. high < 16)) (sym high) (small_behind old.high digit (subst (λ (n : ℕ). n < 16) (sym value) small));
+    }
+
+-- ---- white space
+
+packed_more : (text : List ℕ) (b : ℕ) (space : Bool) → is_space b ≡ space → packed (text ++ b ∷ []) ≡ packed text ++ (if space then [] else b ∷ [])
+packed_more text b true is = filter-append (λ x. not (is_space x)) text (b ∷ []) ∙ rw is refl
+packed_more text b false is = filter-append (λ x. not (is_space x)) text (b ∷ []) ∙ rw is refl
+
+-- text, and white space
+pub passes_space : (hex : HexText) (text : List ℕ) (b : ℕ) → IsDecoded hex (packed text) → is_space b ≡ true → IsDecoded hex (packed (text ++ b ∷ []))
+passes_space hex text b d is = subst (IsDecoded hex) (sym (packed_more text b true is ∙ append-nil (packed text))) d
+
+-- text, and another byte
+pub passes_byte : (hex : HexText) (text : List ℕ) (b : ℕ) → IsDecoded hex (packed text ++ b ∷ []) → is_space b ≡ false → IsDecoded hex (packed (text ++ b ∷ []))
+passes_byte hex text b d is = subst (IsDecoded hex) (sym (packed_more text b false is)) d
+
+-- a piece, up to its next byte
+pub piece_more : (text piece : List ℕ) (i : ℕ) → i < length piece → text ++ take (i + 1) piece ≡ (text ++ take i piece) ++ get_or piece i 0 ∷ []
+piece_more text piece i there = ap (λ (x : List ℕ). text ++ x) (take_more piece i 0 there) ∙ sym (append_assoc text (take i piece) (get_or piece i 0 ∷ []))
+
+-- what follows of three facts of a call that succeeded
+pub all_ok : {A E P Q R T : Type 0} (r : Result A E) → OnOk r P → OnOk r Q → OnOk r R → (P → Q → R → T) → OnOk r T
+all_ok (Ok x) p q r so = so p q r
+all_ok (Err e) p q r so = tt
+
+-- ---- the room for a piece
+
+-- what was read stands in all of it
+pub room_is : (n : ℕ) (new items : List ℕ) → length new ≡ length items → n ≡ length items → take n (new ++ drop (length new) items) ≡ new
+room_is n new items size long =
+    ap (λ (x : List ℕ). take n (new ++ x)) (drop_all (length new) items (omega (arith, size))) ∙ ap (take n) (append-nil new) ∙ take_all n new (omega (arith, size, long))

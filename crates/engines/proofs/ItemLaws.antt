@@ -1,12 +1,12 @@
 -- Bytes have one text at most as items of a kind, where each item has one, and each fault one line.
-use Rattle.std.proofs.Common.{◌≡◌, ◌⊎◌, inl, inr, ◌+◌, ◌++◌, [], ◌∷◌, ℕ, List, Bool, Option, None, Some, length, refl, sym, ap, subst, ◌∙◌, append_assoc, arith, length-append}
+use Rattle.std.proofs.Common.{◌≡◌, ◌⊎◌, inl, inr, ◌+◌, ◌++◌, [], ◌∷◌, ℕ, List, Bool, Option, Some, length, refl, sym, ap, subst, ◌∙◌, append_assoc, arith, length-append}
 use Rattle.std.specs.List.{concat}
 use Rattle.std.proofs.lemmas.List.{append_cancel_left}
 use Rattle.bson_elem.specs.Spelling.{IsBytes}
 use Rattle.bson_elem.proofs.Lemmas.{IsBytes-after}
 use Rattle.wire_msg.proofs.Lemmas.{IsBytes-front}
 use Rattle.engines.specs.Output.{is_there, or_nothing}
-use Rattle.engines.specs.Items.{AreItems, AreTextsOf, IsLastItem, IsLastItemAt, ItemKind, ItemsText, are_there}
+use Rattle.engines.specs.Items.{AreItems, AreTextsOf, IsLastItem, ItemKind, ItemsText, are_there}
 use Rattle.engines.proofs.ItemReadings.{IsKind}
 
 -- what else is known of a kind whose texts are told by the bytes
@@ -23,40 +23,35 @@ module _ (k : ItemKind) (is_kind : IsKind k) (is : IsTold k) where
   rest_is start (x ∷ xs) last (inl o) = inl o.0
   rest_is start (x ∷ xs) last (inr bad) = inr (bad.0, bad.1)
 
-  rest_is_at : (start : ℕ) (place : Option ℕ) (rest : List ℕ) (last : Option (List ℕ)) → IsLastItemAt k start place rest last → k.is_open rest ⊎ ((line : List ℕ) × k.is_bad start rest line)
-  rest_is_at start None rest last e = rest_is start rest last e
-  rest_is_at start (Some offset) rest last (inl o) = inl o.0
-  rest_is_at start (Some offset) rest last (inr e) = rest_is start rest last e.1
-
   -- so no item that has a text is in front of it
-  none_begins : (start : ℕ) (place : Option ℕ) (rest item after text : List ℕ) (last : Option (List ℕ)) → IsBytes rest → IsLastItemAt k start place rest last → rest ≡ item ++ after → k.is_item item → k.is_text start item text → ⊥
-  none_begins start place rest item after text last fits e sum p t = so (rest_is_at start place rest last e)
+  none_begins : (start : ℕ) (rest item after text : List ℕ) (last : Option (List ℕ)) → IsBytes rest → IsLastItem k start rest last → rest ≡ item ++ after → k.is_item item → k.is_text start item text → ⊥
+  none_begins start rest item after text last fits e sum p t = so (rest_is start rest last e)
     where
       so : k.is_open rest ⊎ ((line : List ℕ) × k.is_bad start rest line) → ⊥
       so (inl o) = is_kind.open_not_item item after (subst k.is_open sum o) p
       so (inr (line, bad)) = is.bad_not_text start item after line text (subst IsBytes sum fits) (subst (λ (x : List ℕ). k.is_bad start x line) sum bad) p t
 
   -- bytes are items and a rest in one way at most
-  one_split : (start : ℕ) (place : Option ℕ) (bytes a b : List ℕ) (ps qs : List (List ℕ)) (rest after : List ℕ) (last last' : Option (List ℕ)) → IsBytes bytes → AreItems k ps → AreItems k qs
+  one_split : (start : ℕ) (bytes a b : List ℕ) (ps qs : List (List ℕ)) (rest after : List ℕ) (last last' : Option (List ℕ)) → IsBytes bytes → AreItems k ps → AreItems k qs
       → AreTextsOf k start ps a → AreTextsOf k start qs b → bytes ≡ concat ps ++ rest → bytes ≡ concat qs ++ after
-      → IsLastItemAt k (start + length (concat ps)) place rest last → IsLastItemAt k (start + length (concat qs)) place after last' → (ps ≡ qs) × (rest ≡ after)
-  one_split start place bytes a b [] [] rest after last last' fits p q s t x y e f = (refl, sym x ∙ y)
-  one_split start place bytes a b [] (q ∷ qs) rest after last last' fits p q_is s t x y e f =
-      absurd (none_begins start place rest q (concat qs ++ after) t.0 last (subst IsBytes x fits) (subst (λ (n : ℕ). IsLastItemAt k n place rest last) (omega arith) e)
+      → IsLastItem k (start + length (concat ps)) rest last → IsLastItem k (start + length (concat qs)) after last' → (ps ≡ qs) × (rest ≡ after)
+  one_split start bytes a b [] [] rest after last last' fits p q s t x y e f = (refl, sym x ∙ y)
+  one_split start bytes a b [] (q ∷ qs) rest after last last' fits p q_is s t x y e f =
+      absurd (none_begins start rest q (concat qs ++ after) t.0 last (subst IsBytes x fits) (subst (λ (n : ℕ). IsLastItem k n rest last) (omega arith) e)
       (sym x ∙ y ∙ append_assoc q (concat qs) after) q_is.0 t.2)
-  one_split start place bytes a b (p ∷ ps) [] rest after last last' fits p_is q s t x y e f =
-      absurd (none_begins start place after p (concat ps ++ rest) s.0 last' (subst IsBytes y fits) (subst (λ (n : ℕ). IsLastItemAt k n place after last') (omega arith) f)
+  one_split start bytes a b (p ∷ ps) [] rest after last last' fits p_is q s t x y e f =
+      absurd (none_begins start after p (concat ps ++ rest) s.0 last' (subst IsBytes y fits) (subst (λ (n : ℕ). IsLastItem k n after last') (omega arith) f)
       (sym y ∙ x ∙ append_assoc p (concat ps) rest) p_is.0 s.2)
-  one_split start place bytes a b (p ∷ ps) (q ∷ qs) rest after last last' fits p_is q_is s t x y e f =
+  one_split start bytes a b (p ∷ ps) (q ∷ qs) rest after last last' fits p_is q_is s t x y e f =
       let front : bytes ≡ p ++ (concat ps ++ rest) = x ∙ append_assoc p (concat ps) rest in
       let both : p ++ (concat ps ++ rest) ≡ q ++ (concat qs ++ after) = sym front ∙ y ∙ append_assoc q (concat qs) after in
       let first : p ≡ q = is.one_item p q (concat ps ++ rest) (concat qs ++ after) p_is.0 q_is.0 both in
       let size : length q ≡ length p = ap length (sym first) in
       let behind : concat ps ++ rest ≡ concat qs ++ after = append_cancel_left q (concat ps ++ rest) (concat qs ++ after) (ap (λ (z : List ℕ). z ++ (concat ps ++ rest)) (sym first) ∙ both) in
       let texts : AreTextsOf k (start + length p) qs t.1 = subst (λ (n : ℕ). AreTextsOf k (start + n) qs t.1) size t.3 in
-      let ends : IsLastItemAt k ((start + length p) + length (concat ps)) place rest last = subst (λ (n : ℕ). IsLastItemAt k n place rest last) (omega (arith, length-append p (concat ps))) e in
-      let ends' : IsLastItemAt k ((start + length p) + length (concat qs)) place after last' = subst (λ (n : ℕ). IsLastItemAt k n place after last') (omega (arith, size, length-append q (concat qs))) f in
-      let others = one_split (start + length p) place (concat ps ++ rest) s.1 t.1 ps qs rest after last last' (IsBytes-after p (concat ps ++ rest) (subst IsBytes front fits)) p_is.1 q_is.1 s.3 texts refl behind ends ends' in
+      let ends : IsLastItem k ((start + length p) + length (concat ps)) rest last = subst (λ (n : ℕ). IsLastItem k n rest last) (omega (arith, length-append p (concat ps))) e in
+      let ends' : IsLastItem k ((start + length p) + length (concat qs)) after last' = subst (λ (n : ℕ). IsLastItem k n after last') (omega (arith, size, length-append q (concat qs))) f in
+      let others = one_split (start + length p) (concat ps ++ rest) s.1 t.1 ps qs rest after last last' (IsBytes-after p (concat ps ++ rest) (subst IsBytes front fits)) p_is.1 q_is.1 s.3 texts refl behind ends ends' in
       (ap (λ (z : List ℕ). z ∷ ps) first ∙ ap (λ (z : List (List ℕ)). q ∷ z) others.0, others.1)
 
   -- items have one text
@@ -76,29 +71,21 @@ module _ (k : ItemKind) (is_kind : IsKind k) (is : IsTold k) where
   one_last start (x ∷ xs) last last' fits (inr a) (inl b) = absurd (is_kind.open_not_bad start (x ∷ xs) a.0 b.0 a.1)
   one_last start (x ∷ xs) last last' fits (inr a) (inr b) = a.2 ∙ ap (λ (line : List ℕ). Some line) (is.one_line start (x ∷ xs) a.0 b.0 fits a.1 b.1) ∙ sym b.2
 
-  -- the same where hexadecimal text is at fault behind the rest
-  one_last_at : (start : ℕ) (place : Option ℕ) (rest : List ℕ) (last last' : Option (List ℕ)) → IsBytes rest → IsLastItemAt k start place rest last → IsLastItemAt k start place rest last' → last ≡ last'
-  one_last_at start None rest last last' fits a b = one_last start rest last last' fits a b
-  one_last_at start (Some offset) rest last last' fits (inl a) (inl b) = a.1 ∙ sym b.1
-  one_last_at start (Some offset) rest last last' fits (inl a) (inr b) = absurd (b.0 a.0)
-  one_last_at start (Some offset) rest last last' fits (inr a) (inl b) = absurd (a.0 b.0)
-  one_last_at start (Some offset) rest last last' fits (inr a) (inr b) = one_last start rest last last' fits a.1 b.1
-
-  pub one_items_text : (start : ℕ) (closing : Bool → List ℕ) (place : Option ℕ) (bytes text text' : List ℕ) (fault fault' : Bool) → IsBytes bytes
-      → ItemsText k start closing place bytes text fault → ItemsText k start closing place bytes text' fault' → (text ≡ text') × (fault ≡ fault')
-  one_items_text start closing place bytes text text' fault fault' fits w w' =
+  pub one_items_text : (start : ℕ) (closing : Bool → List ℕ) (bytes text text' : List ℕ) (fault fault' : Bool) → IsBytes bytes
+      → ItemsText k start closing bytes text fault → ItemsText k start closing bytes text' fault' → (text ≡ text') × (fault ≡ fault')
+  one_items_text start closing bytes text text' fault fault' fits w w' =
       let a = w.2 in
       let b = w'.2 in
       let h = a.have in
       let g = b.have in
-      let same = one_split start place bytes w.0 w'.0 h.items g.items a.rest b.rest w.1 w'.1 fits h.items_are g.items_are h.texts_are g.texts_are h.joined g.joined a.last_is b.last_is in
+      let same = one_split start bytes w.0 w'.0 h.items g.items a.rest b.rest w.1 w'.1 fits h.items_are g.items_are h.texts_are g.texts_are h.joined g.joined a.last_is b.last_is in
       let items : IsBytes (concat h.items) = IsBytes-front bytes (concat h.items) a.rest fits h.joined in
       let rest : IsBytes a.rest = IsBytes-after (concat h.items) a.rest (subst IsBytes h.joined fits) in
       let texts : w.0 ≡ w'.0 = one_of_items start h.items w.0 w'.0 items h.items_are h.texts_are (subst (λ (x : List (List ℕ)). AreTextsOf k start x w'.0) (sym same.0) g.texts_are) in
-      let again : IsLastItemAt k (start + length (concat h.items)) place a.rest w'.1 =
-      subst (λ (x : List (List ℕ)). IsLastItemAt k (start + length (concat x)) place a.rest w'.1) (sym same.0)
-      (subst (λ (r : List ℕ). IsLastItemAt k (start + length (concat g.items)) place r w'.1) (sym same.1) b.last_is) in
-      let last : w.1 ≡ w'.1 = one_last_at (start + length (concat h.items)) place a.rest w.1 w'.1 rest a.last_is again in (
+      let again : IsLastItem k (start + length (concat h.items)) a.rest w'.1 =
+      subst (λ (x : List (List ℕ)). IsLastItem k (start + length (concat x)) a.rest w'.1) (sym same.0)
+      (subst (λ (r : List ℕ). IsLastItem k (start + length (concat g.items)) r w'.1) (sym same.1) b.last_is) in
+      let last : w.1 ≡ w'.1 = one_last (start + length (concat h.items)) a.rest w.1 w'.1 rest a.last_is again in (
         w.3 ∙ ap (λ (x : List ℕ). x ++ (closing (are_there h.items) ++ or_nothing w.1)) texts ∙ ap (λ (x : List (List ℕ)). w'.0 ++ (closing (are_there x) ++ or_nothing w.1)) same.0
             ∙ ap (λ (x : Option (List ℕ)). w'.0 ++ (closing (are_there g.items) ++ or_nothing x)) last ∙ sym w'.3,
         w.4 ∙ ap is_there last ∙ sym w'.4,

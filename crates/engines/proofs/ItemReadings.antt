@@ -14,7 +14,7 @@ use Rattle.engines.specs.declared.walk.Stop.TheVariants as stop
 use Rattle.engines.specs.InputFault.{input_fault_line}
 use Rattle.engines.specs.Output.{is_there, or_nothing}
 use Rattle.engines.specs.ItemWalk.{EndAt, GoesOverItems, IsStoppedAt, ItemReading, ItemWalk, ItemsWritten, StandAt, item_tells}
-use Rattle.engines.specs.Items.{AreItems, AreTextsOf, FirstItems, HaveItems, IsLastItem, IsLastItemAt, ItemKind, ItemsText, are_there}
+use Rattle.engines.specs.Items.{AreItems, AreTextsOf, FirstItems, HaveItems, IsLastItem, ItemKind, ItemsText, are_there}
 use Rattle.engines.specs.Walk.{IsAtFault, IsBetween, Walks}
 
 -- what is known of a kind: bytes that more decide are at no fault, and begin with no item; and what follows bytes doesn't change their fault
@@ -150,13 +150,9 @@ module _ (k : ItemKind) (is_kind : IsKind k) where
       is_kind.open_not_item item after (subst k.is_open (sym same) o) p)
 
   -- the last line of bytes at fault
-  last_bad : (start : ℕ) (rest line : List ℕ) → k.is_bad start rest line → IsLastItem k start rest (Some line)
+  pub last_bad : (start : ℕ) (rest line : List ℕ) → k.is_bad start rest line → IsLastItem k start rest (Some line)
   last_bad start [] line bad = absurd (is_kind.open_not_bad start [] line is_kind.nothing_open bad)
   last_bad start (x ∷ xs) line bad = inr (line, bad, refl)
-
-  last_settled : (start : ℕ) (place : Option ℕ) (rest line : List ℕ) → k.is_bad start rest line → IsLastItemAt k start place rest (Some line)
-  last_settled start None rest line bad = last_bad start rest line bad
-  last_settled start (Some offset) rest line bad = inr ((λ o. is_kind.open_not_bad start rest line o bad), last_bad start rest line bad)
 
 -- the last line of bytes that more bytes would decide
 last_open : (k : ItemKind) (start : ℕ) (rest : List ℕ) → k.is_open rest → (last : Option (List ℕ)) × IsLastItem k start rest last
@@ -183,8 +179,8 @@ still_first k base bytes texts rest more h = (rest ++ more, have_before k base b
 
 module _ {R : Type 0} (walk : ItemWalk R) (is_kind : IsKind (walk.kind walk.limit)) where
   -- items, and then bytes with this last line
-  ends_at : (r : R) (place : Option ℕ) (bytes texts rest : List ℕ) (last : Option (List ℕ)) → StandAt walk r bytes texts rest → IsLastItemAt (walk.kind walk.limit) (walk.reading r).start place rest last → EndAt walk r place bytes texts last
-  ends_at r place bytes texts rest last s is = (record { rest = rest; have = s.have; last_is = subst (λ (n : ℕ). IsLastItemAt (walk.kind walk.limit) n place rest last) s.start_is is }, s.start_is)
+  ends_at : (r : R) (bytes texts rest : List ℕ) (last : Option (List ℕ)) → StandAt walk r bytes texts rest → IsLastItem (walk.kind walk.limit) (walk.reading r).start rest last → EndAt walk r bytes texts last
+  ends_at r bytes texts rest last s is = (record { rest = rest; have = s.have; last_is = subst (λ (n : ℕ). IsLastItem (walk.kind walk.limit) n rest last) s.start_is is }, s.start_is)
 
   -- where a reader may be fed more
   between : (r : R) (read texts : List ℕ) → StandAt walk r read texts (walk.reading r).held → (walk.kind walk.limit).is_open (walk.reading r).held → IsBetween (item_tells walk) r read texts
@@ -194,9 +190,8 @@ module _ {R : Type 0} (walk : ItemWalk R) (is_kind : IsKind (walk.kind walk.limi
       let last = last_open k (walk.reading r).start held o in
       record {
         stands = (s, o);
-        all = (last.0, (ends_at r None read texts held last.0 s last.1).0);
+        all = (last.0, (ends_at r read texts held last.0 s last.1).0);
         first = λ more. still_first k walk.base read texts held more s.have;
-        cut = λ place. ends_at r (Some place) read texts held _ s (inl (o, refl));
       }
 
   pub items_begun : (r : R) → (walk.reading r).limit ≡ walk.limit → (walk.reading r).held ≡ [] → (walk.reading r).start ≡ walk.base → IsBetween (item_tells walk) r [] []
@@ -211,8 +206,14 @@ module _ {R : Type 0} (walk : ItemWalk R) (is_kind : IsKind (walk.kind walk.limi
       let k = walk.kind walk.limit in
       let start = (walk.reading r).start in
       let more : StandAt walk r (bytes ++ later) texts (rest ++ later) = record { limit = s.limit; have = have_before k walk.base bytes texts rest later s.have; start_is = s.start_is } in
-      let ends = λ (place : Option ℕ). ends_at r place (bytes ++ later) texts (rest ++ later) (Some line) more (last_settled k is_kind start place (rest ++ later) line (is_kind.bad_longer start rest later line bad)) in
-      record { ends = ends; all = (Some line, (ends None).0); first = λ after. still_first k walk.base (bytes ++ later) texts (rest ++ later) after more.have }
+      let faulty : k.is_bad start (rest ++ later) line = is_kind.bad_longer start rest later line bad in
+      let ends = ends_at r (bytes ++ later) texts (rest ++ later) (Some line) more (last_bad k is_kind start (rest ++ later) line faulty) in
+      record {
+        ends = ends;
+        is_bad = (rest ++ later, more, faulty);
+        all = (Some line, ends.0);
+        first = λ after. still_first k walk.base (bytes ++ later) texts (rest ++ later) after more.have;
+      }
 
   -- a reader was fed a piece
   walks : (new : R) (bytes texts more rest : List ℕ) (s : Option Stop) (from to : Option (List ℕ)) → StandAt walk new bytes (texts ++ more) rest → Appends from to more
@@ -244,12 +245,12 @@ module _ {R : Type 0} (walk : ItemWalk R) (is_kind : IsKind (walk.kind walk.limi
   may_feed r read texts b = subst (λ (n : ℕ). (walk.kind n).is_open (walk.reading r).held) (sym b.stands.0.limit) b.stands.1
 
   -- at the end of the input
-  pub ends_between : (r : R) (read texts : List ℕ) → IsBetween (item_tells walk) r read texts → (walk.reading r).held ≡ [] → EndAt walk r None read texts None
-  ends_between r read texts b none = ends_at r None read texts (walk.reading r).held None b.stands.0 (last_none (walk.kind walk.limit) (walk.reading r).start (walk.reading r).held none)
+  pub ends_between : (r : R) (read texts : List ℕ) → IsBetween (item_tells walk) r read texts → (walk.reading r).held ≡ [] → EndAt walk r read texts None
+  ends_between r read texts b none = ends_at r read texts (walk.reading r).held None b.stands.0 (last_none (walk.kind walk.limit) (walk.reading r).start (walk.reading r).held none)
 
-  pub ends_inside : (r : R) (read texts : List ℕ) → IsBetween (item_tells walk) r read texts → (walk.reading r).held ≢ [] → EndAt walk r None read texts (Some ((walk.kind walk.limit).inside_line (walk.reading r).start))
+  pub ends_inside : (r : R) (read texts : List ℕ) → IsBetween (item_tells walk) r read texts → (walk.reading r).held ≢ [] → EndAt walk r read texts (Some ((walk.kind walk.limit).inside_line (walk.reading r).start))
   ends_inside r read texts b some =
-      ends_at r None read texts (walk.reading r).held _ b.stands.0 (last_inside (walk.kind walk.limit) (walk.reading r).start (walk.reading r).held b.stands.1 some)
+      ends_at r read texts (walk.reading r).held _ b.stands.0 (last_inside (walk.kind walk.limit) (walk.reading r).start (walk.reading r).held b.stands.1 some)
 
   -- an item has some bytes
   item_some : (item : List ℕ) → (walk.kind walk.limit).is_item item → 1 ≤ length item
@@ -262,11 +263,11 @@ module _ {R : Type 0} (walk : ItemWalk R) (is_kind : IsKind (walk.kind walk.limi
   any_there (p ∷ ps) are = lt-ltb walk.base (walk.base + length (concat (p ∷ ps))) (omega (arith, item_some p are.0, length-append p (concat ps)))
 
   -- what follows the texts of all items
-  pub closing_told : {E : Type 0} (w : Result (Unit {0}) E) (a b : Option (List ℕ)) (r : R) (word : List ℕ) (place : Option ℕ) (bytes texts : List ℕ) (last : Option (List ℕ)) → EndAt walk r place bytes texts last
+  pub closing_told : {E : Type 0} (w : Result (Unit {0}) E) (a b : Option (List ℕ)) (r : R) (word bytes texts : List ℕ) (last : Option (List ℕ)) → EndAt walk r bytes texts last
       → word ≡ walk.closing (nat_lt walk.base (walk.reading r).start) → OnOk w (Appends a b word)
-      → OnOk w ((closing : List ℕ) × ItemsText (walk.kind walk.limit) walk.base walk.closing place bytes (texts ++ (closing ++ or_nothing last)) (is_there last) × Appends a b closing)
-  closing_told (Err x) a b r word place bytes texts last e is w = tt
-  closing_told (Ok x) a b r word place bytes texts last (are, at) is w =
+      → OnOk w ((closing : List ℕ) × ItemsText (walk.kind walk.limit) walk.base walk.closing bytes (texts ++ (closing ++ or_nothing last)) (is_there last) × Appends a b closing)
+  closing_told (Err x) a b r word bytes texts last e is w = tt
+  closing_told (Ok x) a b r word bytes texts last (are, at) is w =
       let any : nat_lt walk.base (walk.reading r).start ≡ are_there are.have.items = ap (nat_lt walk.base) at ∙ any_there are.have.items are.have.items_are in
       let same : word ≡ walk.closing (are_there are.have.items) = is ∙ ap walk.closing any in
       (word, (texts, last, are, ap (λ (y : List ℕ). texts ++ (y ++ or_nothing last)) same, refl), w)

@@ -20,4 +20,3 @@ pub mod LoopLemmas
 pub mod TextsRead
 pub mod TextPieceLemmas
 pub mod HexLemmas
-pub mod HexWalkLemmas

@@ -1,5 +1,5 @@
 -- Bytes have one text at most as messages.
-use Rattle.std.proofs.Common.{◌≡◌, ◌+◌, ◌++◌, ℕ, List, Bool, Option, sym, ap, ◌∙◌}
+use Rattle.std.proofs.Common.{◌≡◌, ◌+◌, ◌++◌, ℕ, List, Bool, sym, ap, ◌∙◌}
 use Rattle.bson_elem.specs.Spelling.{IsBytes}
 use Rattle.wire_msg.specs.declared.fault.MsgFault.{MsgFault}
 use Rattle.wire_msg.proofs.Lemmas.{bad_not_whole, bad_once, msg_are_bytes, one_front, one_message}
@@ -19,6 +19,6 @@ messages_told limit = record {
   bad_not_text = λ start front rest line text fits bad is t. bad_not_whole limit (front ++ rest) rest is.1.0 bad.0 fits bad.1 (whole_front limit front rest is);
 }
 
-pub one_msg_text : (place : Option ℕ) (bytes text text' : List ℕ) (fault fault' : Bool) → IsBytes bytes
-    → MsgText Text place bytes text fault → MsgText Text place bytes text' fault' → (text ≡ text') × (fault ≡ fault')
+pub one_msg_text : (bytes text text' : List ℕ) (fault fault' : Bool) → IsBytes bytes
+    → MsgText Text bytes text fault → MsgText Text bytes text' fault' → (text ≡ text') × (fault ≡ fault')
 one_msg_text = one_items_text (messages_of Text 48000000) (messages_kind Text 48000000) (messages_told 48000000) 0 nothing

@@ -1,21 +1,18 @@
 -- What is told of an input by its first bytes, and what is gone over then.
 use Rattle.std.proofs.Common.{◌≡◌, ◌≢◌, ◌⊎◌, inl, inr, ◌+◌, ◌-◌, ◌<◌, ◌≤◌, ◌++◌, [], ℕ, List, Option, None, Some, true, false, true≢false, length, take, drop, refl, sym, ap, subst, ◌∙◌, append_assoc, append-nil, arith, length-append, length-drop, length-take, take-append-drop}
 use Rattle.std.specs.Bool.{Decides}
-use Rattle.std.specs.Prelude.{codes}
-use Rattle.std.specs.Fmt.{decimal}
-use Rattle.std.proofs.lemmas.Fmt.{decimal_injective}
 use Rattle.std.specs.Str.{bytes_eq}
 use Rattle.std.proofs.lemmas.Bool.{cases_Bool, cases_lt}
 use Rattle.std.proofs.lemmas.Slice.Eq.{bytes_eq-Decides}
 use Rattle.std.proofs.Math.Seq.{take-append-add, take-append_seam, take-length}
-use Rattle.std.proofs.lemmas.List.{append_cancel_left, append_cancel_right, nil_from_length, take-append-le}
+use Rattle.std.proofs.lemmas.List.{append_cancel_left, nil_from_length, take-append-le}
 use Rattle.wire_record.specs.{signature}
 use Rattle.engines.specs.declared.or_records.OrRecordsReader.{OrRecordsReader}
 use Rattle.engines.specs.declared.or_records.Sort.{Sort}
 use Rattle.engines.specs.declared.or_records.Sort.TheVariants.{Undecided, Records, Others}
 use Rattle.engines.specs.declared.walk.Stop.{Stop}
 use Rattle.engines.specs.declared.walk.Stop.TheVariants as stop
-use Rattle.engines.specs.InputFault.{hex_line, input_fault_line}
+use Rattle.engines.specs.InputFault.{input_fault_line}
 use Rattle.engines.specs.OrRecords.{RecordsOr}
 use Rattle.engines.specs.OrRecordsWalk.{EndSorted, GetsNoSignature, HasNoSignature, IsSorted, StandSorted, Waits, or_records_tells}
 use Rattle.engines.specs.Walk.{IsAtFault, IsBetween, Tells, Walks}
@@ -104,15 +101,6 @@ sorted_others n wanted piece behind at none short = λ more after is.
 
 -- ---- between two pieces
 
--- lines that tell different places differ
-hex_lines_differ : hex_line 0 ≡ hex_line 1 → ⊥
-hex_lines_differ same =
-    let zero = append_cancel_left (codes "fault ") _ _ same in
-    let name = append_cancel_left (codes " ") _ _ (append_cancel_left (decimal 0) _ _ zero) in
-    let place = append_cancel_left (codes " at ") _ _ (append_cancel_left (codes "Hex") _ _ name) in
-    let equal : 0 ≡ 1 = decimal_injective 0 1 (omega arith) (omega arith) (append_cancel_right (decimal 0) (decimal 1) (codes "\n") place) in
-    omega (arith, equal)
-
 module _ {A B : Type 0} (t : Tells A) (u : Tells B) where
   abbrev Reader : Sort → A → B → OrRecordsReader A B
   Reader sort a b = record { sort = sort; others = a; records = b }
@@ -133,7 +121,6 @@ module _ {A B : Type 0} (t : Tells A) (u : Tells B) where
         stands = (few, is, x, y);
         all = inr (lacks, x.all);
         first = first_undecided bytes texts none x.first y.first;
-        cut = λ place. (lacks, x.cut place);
       }
 
   between_others : (a : A) (b : B) (bytes texts : List ℕ) → GetsNoSignature bytes → IsBetween t a bytes texts → IsBetween (or_records_tells t u) (Reader Others a b) bytes texts
@@ -143,7 +130,6 @@ module _ {A B : Type 0} (t : Tells A) (u : Tells B) where
         stands = (lacks, x);
         all = inr (has, x.all);
         first = λ more. inr (lacks more, x.first more);
-        cut = λ place. (has, x.cut place);
       }
 
   between_records : (a : A) (b : B) (bytes behind texts : List ℕ) → bytes ≡ signature ++ behind → IsBetween u b behind texts → IsBetween (or_records_tells t u) (Reader Records a b) bytes texts
@@ -151,7 +137,6 @@ module _ {A B : Type 0} (t : Tells A) (u : Tells B) where
     stands = (behind, is, y);
     all = inl (behind, is, y.all);
     first = λ more. inl (behind ++ more, longer_behind bytes behind more is, y.first more);
-    cut = λ place. (behind, is, y.cut place);
   }
 
   pub between_first : (a : A) (b : B) → IsBetween t a [] [] → IsBetween u b [] [] → IsBetween (or_records_tells t u) (Reader (Undecided 0) a b) [] []
@@ -166,7 +151,8 @@ module _ {A B : Type 0} (t : Tells A) (u : Tells B) where
     more,
     app,
     (λ later. record {
-      ends = λ place. (lacks later, (x later).ends place);
+      ends = (lacks later, (x later).ends);
+      is_bad = (lacks later, (x later).is_bad);
       all = inr (lacks later, (x later).all);
       first = λ after. inr (longer_none bytes later lacks after, (x later).first after);
     }),
@@ -182,7 +168,8 @@ module _ {A B : Type 0} (t : Tells A) (u : Tells B) where
     (λ later.
         let at = longer_behind bytes behind later is in
         record {
-          ends = λ place. (behind ++ later, at, (y later).ends place);
+          ends = (behind ++ later, at, (y later).ends);
+          is_bad = (behind ++ later, at, (y later).is_bad);
           all = inl (behind ++ later, at, (y later).all);
           first = λ after. inl ((behind ++ later) ++ after, longer_behind (bytes ++ later) (behind ++ later) after at, (y later).first after);
         }),
@@ -194,9 +181,7 @@ module _ {A B : Type 0} (t : Tells A) (u : Tells B) where
   silent_at w n bytes texts few is first = w.silent n texts few (subst (λ (x : List ℕ). t.first x texts) (append-nil bytes ∙ is) first)
 
   no_fault_at : Waits t → (n : ℕ) (a : A) (bytes texts line : List ℕ) → n < 8 → bytes ≡ take n signature → IsAtFault t a (bytes ++ []) texts line → ⊥
-  no_fault_at w n a bytes texts line few is x =
-      let told : (place : ℕ) → line ≡ hex_line place = λ place. w.cut n place a texts line few (subst (λ (y : List ℕ). t.ends a (Some place) y texts (Some line)) (append-nil bytes ∙ is) (x.ends (Some place))) in
-      hex_lines_differ (sym (told 0) ∙ told 1)
+  no_fault_at w n a bytes texts line few is x = w.sound n a texts line few (subst (λ (y : List ℕ). t.is_bad a y texts line) (append-nil bytes ∙ is) x.is_bad)
 
   walks_undecided : Waits t → (n : ℕ) (a : A) (b : B) (bytes texts : List ℕ) (s : Option Stop) (from to : Option (List ℕ)) → n < 8 → bytes ≡ take n signature → IsBetween u b [] []
       → Walks t a bytes texts s from to → Walks (or_records_tells t u) (Reader (Undecided n) a b) bytes texts s from to
@@ -245,8 +230,8 @@ module _ {A B : Type 0} (t : Tells A) (u : Tells B) where
   others_begin Records n new b read piece behind texts s from to w lacks is y sorted walks = absurd (lacks refl)
 
   -- the end of an input without the signature
-  pub ends_others : (sort : Sort) (a : A) (b : B) (place : Option ℕ) (read texts : List ℕ) (last : Option (List ℕ)) → (sort ≡ Records → ⊥) → StandSorted t u sort a b read texts
-      → (IsBetween t a read texts → t.ends a place read texts last) → EndSorted t u sort a b place read texts last
-  ends_others (Undecided n) a b place read texts last other (few, is, x, y) ends = (few_have_none n read few is, ends x)
-  ends_others Others a b place read texts last other (lacks, x) ends = (has_none read lacks, ends x)
-  ends_others Records a b place read texts last other s ends = absurd (other refl)
+  pub ends_others : (sort : Sort) (a : A) (b : B) (read texts : List ℕ) (last : Option (List ℕ)) → (sort ≡ Records → ⊥) → StandSorted t u sort a b read texts
+      → (IsBetween t a read texts → t.ends a read texts last) → EndSorted t u sort a b read texts last
+  ends_others (Undecided n) a b read texts last other (few, is, x, y) ends = (few_have_none n read few is, ends x)
+  ends_others Others a b read texts last other (lacks, x) ends = (has_none read lacks, ends x)
+  ends_others Records a b read texts last other s ends = absurd (other refl)

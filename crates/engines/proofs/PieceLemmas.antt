@@ -1,5 +1,5 @@
 -- What was read of an input and written for it, piece by piece.
-use Rattle.std.proofs.Common.{◌≡◌, ◌⊎◌, inl, inr, ◌++◌, [], ℕ, List, Option, None, Some, IfSome, Result, Ok, Err, IfOk, true, take, refl, sym, ap, subst, ◌∙◌, append-nil}
+use Rattle.std.proofs.Common.{◌≡◌, ◌⊎◌, inl, inr, ◌++◌, [], ℕ, Bool, List, Option, None, Some, IfSome, Result, Ok, Err, IfOk, true, take, refl, sym, ap, subst, ◌∙◌, append-nil}
 use Rattle.std.specs.Io.KnownBytes.{Appends, Consumes, IsAtEnd, Keeps, append_known}
 use Rattle.std.proofs.KnownBytes.{Appends-kept, Appends-nil, Appends-trans, Consumes-kept, Consumes-nil, Consumes-trans, Consumes-whole}
 use Rattle.engines.specs.declared.input_fault.InputFault.{InputFault}
@@ -9,8 +9,9 @@ use Rattle.engines.specs.declared.run.RunEnd.{RunEnd}
 use Rattle.engines.specs.declared.run.RunEnd.TheVariants.{Good, Fault, Unread, InOut, OutOfMemory}
 use Rattle.engines.specs.declared.walk.Stop.{Stop}
 use Rattle.engines.specs.declared.walk.Stop.TheVariants as stop
+use Rattle.engines.specs.Input.{bytes_of, hex_fault}
 use Rattle.engines.specs.InputFault.{line_of}
-use Rattle.engines.specs.Output.{AppendsOne, AppendsText, WritesRead}
+use Rattle.engines.specs.Output.{AppendsOne, AppendsText, IsFirstOf, OrNone, WritesRead}
 use Rattle.engines.specs.Run.{IsCutShort, is_done, is_fault}
 use Rattle.engines.specs.Source.{given}
 use Rattle.engines.specs.Walk.{Ends, IsBetween, IsEnding, IsFinish, Tells, Walks}
@@ -43,7 +44,7 @@ goes_on t from mid to old known new r after piece (read, texts, c, a, w) more (t
 
 -- at the end of the input
 pub ends_whole : {R : Type 0} (t : Tells R) (from mid to old new : Option (List ℕ)) (r : R) (last : Option InputFault) (b : Between t from mid r old new) → Consumes mid to []
-    → t.ends r None b.0 b.1 (line_of last) → Ends t r (Whole last) from to old new
+    → t.ends r b.0 b.1 (line_of last) → Ends t r (Whole last) from to old new
 ends_whole t from mid to old new r last (read, texts, c, a, w) end ends =
     (read, texts, subst (Consumes from to) (append-nil read) (Consumes-trans from mid to read [] c end), a, ends)
 
@@ -73,7 +74,7 @@ ends_gone t from mid to last old known new r after piece more f k (read, texts, 
     )
   where
     so : (k ≡ Whole (Some f)) ⊎ ((end : RunEnd) × (k ≡ Cut end) × IsCutShort end) → IsEnding t after ((read ++ piece) ++ more) (texts ++ text) k
-    so (inl is) = subst (IsEnding t after ((read ++ piece) ++ more) (texts ++ text)) (sym is) ((faulted more).ends None)
+    so (inl is) = subst (IsEnding t after ((read ++ piece) ++ more) (texts ++ text)) (sym is) (faulted more).ends
     so (inr (end, is, short)) = subst (IsEnding t after ((read ++ piece) ++ more) (texts ++ text)) (sym is)
         (cut_so t after ((read ++ piece) ++ more) (texts ++ text) end (faulted more).all (faulted more).first short)
 
@@ -88,6 +89,25 @@ pub where_ok : {A E : Type 0} (r : Result A E) (P Q : A → Type 0) → ((x : A)
 where_ok (Ok x) P Q more p = more x p
 where_ok (Err e) P Q more p = tt
 
+-- ---- a writer whose buffer is empty
+
+empty_behind : (known : Option (List ℕ)) (bytes : List ℕ) → bytes ≡ [] → append_known known bytes ≡ known
+empty_behind None bytes none = refl
+empty_behind (Some xs) bytes none = ap Some (ap (λ (x : List ℕ). xs ++ x) none ∙ append-nil xs)
+
+pub from_empty : {R : Type 0} (t : Tells R) (from to known mid : Option (List ℕ)) (bytes : List ℕ) (r : R) (k : Ending) → bytes ≡ []
+    → Ends t r k from to (append_known known bytes) mid → Ends t r k from to known mid
+from_empty t from to known mid bytes r k none ended = subst (λ (old : Option (List ℕ)). Ends t r k from to old mid) (empty_behind known bytes none) ended
+
+-- nothing was written of an input that memory had no room for
+pub none_first : {R : Type 0} (t : Tells R) (r : R) (hex : Bool) (from old : Option (List ℕ)) → IsBetween t r [] [] → IfSome from (λ input. AppendsOne (IsFirstOf t.first hex input) old old)
+none_first t r hex None old b = tt
+none_first t r hex (Some input) old b = ([], none_of (hex_fault hex input) (bytes_of hex input), Appends-nil old)
+  where
+    none_of : (fault : Option ℕ) (bytes : List ℕ) → OrNone t.first fault bytes []
+    none_of None bytes = b.first bytes
+    none_of (Some place) bytes = refl
+
 -- ---- the end of a run
 
 -- a fact of all known bytes, under a premise
@@ -101,7 +121,7 @@ Finishes t r k end mid new = (read texts : List ℕ) → IsEnding t r read texts
 
 -- the whole text of what was read
 text_whole : {R : Type 0} (t : Tells R) (read texts : List ℕ) (end : RunEnd) (old mid new : Option (List ℕ)) → Appends old mid texts → IsFinish t read texts end mid new → is_done end ≡ true
-    → AppendsText (t.whole None read) (is_fault end) old new
+    → AppendsText (t.whole read) (is_fault end) old new
 text_whole t read texts Good old mid new a (behind, whole, b) done = (texts ++ behind, whole, Appends-trans old mid new texts behind a b)
 text_whole t read texts Fault old mid new a (behind, whole, b) done = (texts ++ behind, whole, Appends-trans old mid new texts behind a b)
 text_whole t read texts Unread old mid new a f done = absurd cc
@@ -111,11 +131,11 @@ text_whole t read texts InOut old mid new a f done = absurd cc
 pub run_done : {R : Type 0} (t : Tells R) (from to old mid new : Option (List ℕ)) (r : R) (k : Ending) (end : RunEnd) → Ends t r k from to old mid → Finishes t r k end mid new
     → ((read texts : List ℕ) → IsEnding t r read texts k → is_done end ≡ true → (last : Option InputFault) × (k ≡ Whole last))
     → ((last : Option InputFault) → k ≡ Whole last → IsAtEnd to)
-    → IfSome from (λ input. is_done end ≡ true → AppendsText (t.whole None input) (is_fault end) old new)
+    → IfSome from (λ input. is_done end ≡ true → AppendsText (t.whole input) (is_fault end) old new)
 run_done t from to old mid new r k end (read, texts, c, a, ending) finish ended whole =
-    under (λ input. AppendsText (t.whole None input) (is_fault end) old new) from (λ (done : is_done end ≡ true).
+    under (λ input. AppendsText (t.whole input) (is_fault end) old new) from (λ (done : is_done end ≡ true).
     let last = ended read texts ending done in
-    Consumes-whole from to read (λ (input : List ℕ). AppendsText (t.whole None input) (is_fault end) old new) c (whole last.0 last.1)
+    Consumes-whole from to read (λ (input : List ℕ). AppendsText (t.whole input) (is_fault end) old new) c (whole last.0 last.1)
     (text_whole t read texts end old mid new a (finish read texts ending) done))
 
 pub run_read : {R : Type 0} (t : Tells R) (from to old mid : Option (List ℕ)) (r : R) (k : Ending) (end : RunEnd) → Ends t r k from to old mid
@@ -143,13 +163,3 @@ pub run_short : {R : Type 0} (t : Tells R) (from to old mid new : Option (List �
 run_short t from to old mid new r k end (read, texts, c, a, ending) finish is =
     let told = subst (λ (e : RunEnd). IsFinish t read texts e mid new) is (finish read texts ending) in
     first_of_all t from to old new read texts c told.0 (Appends-kept old mid new texts a told.1)
-
--- ---- a writer whose buffer is empty
-
-empty_behind : (known : Option (List ℕ)) (bytes : List ℕ) → bytes ≡ [] → append_known known bytes ≡ known
-empty_behind None bytes none = refl
-empty_behind (Some xs) bytes none = ap Some (ap (λ (x : List ℕ). xs ++ x) none ∙ append-nil xs)
-
-pub from_empty : {R : Type 0} (t : Tells R) (from to known mid : Option (List ℕ)) (bytes : List ℕ) (r : R) (k : Ending) → bytes ≡ []
-    → Ends t r k from to (append_known known bytes) mid → Ends t r k from to known mid
-from_empty t from to known mid bytes r k none ended = subst (λ (old : Option (List ℕ)). Ends t r k from to old mid) (empty_behind known bytes none) ended

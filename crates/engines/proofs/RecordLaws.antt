@@ -1,5 +1,5 @@
 -- Bytes have one text at most as records, each with its head and its message; and as an input that its first bytes tell.
-use Rattle.std.proofs.Common.{◌≡◌, inl, inr, ◌+◌, ◌++◌, ℕ, List, Bool, Option, refl, sym, ap, subst, ◌∙◌}
+use Rattle.std.proofs.Common.{◌≡◌, inl, inr, ◌+◌, ◌++◌, ℕ, List, Bool, refl, sym, ap, subst, ◌∙◌}
 use Rattle.bson_elem.specs.Spelling.{IsBytes}
 use Rattle.bson_elem.proofs.Lemmas.{IsBytes-after, IsBytes-drop}
 use Rattle.wire_record.specs.declared.fault.RecordFault.{RecordFault}
@@ -44,19 +44,19 @@ records_told = record {
   bad_not_text = λ start one rest line text fits bad is t. faulty_not_whole 48000000 (one ++ rest) one rest bad.0 bad.1 (record { parts = refl; is = is });
 }
 
-one_records_text : (place : Option ℕ) (bytes text text' : List ℕ) (fault fault' : Bool) → IsBytes bytes
-    → RecordsText form.Text place bytes text fault → RecordsText form.Text place bytes text' fault' → (text ≡ text') × (fault ≡ fault')
+one_records_text : (bytes text text' : List ℕ) (fault fault' : Bool) → IsBytes bytes
+    → RecordsText form.Text bytes text fault → RecordsText form.Text bytes text' fault' → (text ≡ text') × (fault ≡ fault')
 one_records_text = one_items_text (records_of form.Text 48000000) (records_kind form.Text 48000000) records_told 8 (record_closing form.Text)
 
 -- a text, and whether it ends with a fault line, are told by the bytes
-abbrev pub IsOnly : TextOf → Option ℕ → List ℕ → Type 0
-IsOnly Text place bytes = (text text' : List ℕ) (fault fault' : Bool) → Text place bytes text fault → Text place bytes text' fault' → (text ≡ text') × (fault ≡ fault')
+abbrev pub IsOnly : TextOf → List ℕ → Type 0
+IsOnly Text bytes = (text text' : List ℕ) (fault fault' : Bool) → Text bytes text fault → Text bytes text' fault' → (text ≡ text') × (fault ≡ fault')
 
 -- so they are where the first bytes tell the sort of an input
-pub one_text_or_records : (Others : TextOf) (place : Option ℕ) (bytes : List ℕ) → IsBytes bytes → IsOnly Others place bytes → IsOnly (TextOrRecords form.Text Others) place bytes
-one_text_or_records Others place bytes fits only text text' fault fault' (inl (behind, is, x)) (inl (behind', at, y)) =
+pub one_text_or_records : (Others : TextOf) (bytes : List ℕ) → IsBytes bytes → IsOnly Others bytes → IsOnly (TextOrRecords form.Text Others) bytes
+one_text_or_records Others bytes fits only text text' fault fault' (inl (behind, is, x)) (inl (behind', at, y)) =
     let same : behind ≡ behind' = append_cancel_left signature behind behind' (sym is ∙ at) in
-    one_records_text place behind text text' fault fault' (IsBytes-after signature behind (subst IsBytes is fits)) x (subst (λ (b : List ℕ). RecordsText form.Text place b text' fault') (sym same) y)
-one_text_or_records Others place bytes fits only text text' fault fault' (inl (behind, is, x)) (inr y) = absurd (y.0 behind is)
-one_text_or_records Others place bytes fits only text text' fault fault' (inr x) (inl (behind, is, y)) = absurd (x.0 behind is)
-one_text_or_records Others place bytes fits only text text' fault fault' (inr x) (inr y) = only text text' fault fault' x.1 y.1
+    one_records_text behind text text' fault fault' (IsBytes-after signature behind (subst IsBytes is fits)) x (subst (λ (b : List ℕ). RecordsText form.Text b text' fault') (sym same) y)
+one_text_or_records Others bytes fits only text text' fault fault' (inl (behind, is, x)) (inr y) = absurd (y.0 behind is)
+one_text_or_records Others bytes fits only text text' fault fault' (inr x) (inl (behind, is, y)) = absurd (x.0 behind is)
+one_text_or_records Others bytes fits only text text' fault fault' (inr x) (inr y) = only text text' fault fault' x.1 y.1

@@ -50,6 +50,6 @@ module _ (text_of : ℕ → Tree → Option (List ℕ)) where
     bad_not_text = λ start item after line text fits bad is t. bad_not_text start item after line text fits bad t;
   }
 
-pub one_told : (text_of : ℕ → Tree → Option (List ℕ)) (closing : Bool → List ℕ) (place : Option ℕ) (bytes text text' : List ℕ) (fault fault' : Bool) → IsBytes bytes
-    → IsWholeText (told_at text_of) closing place bytes text fault → IsWholeText (told_at text_of) closing place bytes text' fault' → (text ≡ text') × (fault ≡ fault')
+pub one_told : (text_of : ℕ → Tree → Option (List ℕ)) (closing : Bool → List ℕ) (bytes text text' : List ℕ) (fault fault' : Bool) → IsBytes bytes
+    → IsWholeText (told_at text_of) closing bytes text fault → IsWholeText (told_at text_of) closing bytes text' fault' → (text ≡ text') × (fault ≡ fault')
 one_told text_of = one_items_text (documents_of (told_at text_of)) (documents_kind (told_at text_of)) (documents_told text_of) 0

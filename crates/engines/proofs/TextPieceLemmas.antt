@@ -1,5 +1,5 @@
 -- What was read and written of texts, as pieces come and documents are written.
-use Rattle.std.proofs.Common.{◌≡◌, ◌⊎◌, inl, inr, ◌++◌, [], ℕ, ◌+◌, List, Bool, true, false, Option, None, Some, IfOk, IfSome, Result, Ok, Err, length, take, drop, refl, sym, ap, subst, ◌∙◌, append-nil, append_assoc, take-append-drop, true≢false}
+use Rattle.std.proofs.Common.{◌≡◌, ◌⊎◌, inl, inr, ◌++◌, [], ℕ, ◌+◌, List, Bool, true, false, Option, None, Some, IfOk, IfSome, Result, Ok, Err, take, refl, sym, ap, subst, ◌∙◌, append-nil, append_assoc, take-append-drop, true≢false}
 use Rattle.std.specs.Prelude.{OnOk, is_some, not, unwrap_or}
 use Rattle.std.specs.Io.KnownBytes.{Appends, Consumes, IsAtEnd, Keeps, append_known}
 use Rattle.std.proofs.KnownBytes.{Appends-kept, Appends-nil, Consumes-nil, Consumes-trans}

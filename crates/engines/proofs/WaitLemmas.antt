@@ -1,5 +1,5 @@
 -- Nothing is told of the first few bytes of the signature of a file of records, whatever an input is.
-use Rattle.std.proofs.Common.{◌≡◌, inl, inr, ◌+◌, ◌-◌, ◌<◌, ◌++◌, [], ◌∷◌, ℕ, List, Bool, Option, Some, length, take, drop, sym, ap, subst, ◌∙◌, append_assoc, arith, length-take, take-append-drop}
+use Rattle.std.proofs.Common.{◌≡◌, ◌-◌, ◌<◌, ◌++◌, [], ◌∷◌, ℕ, List, Bool, length, take, drop, sym, subst, ◌∙◌, append_assoc, arith, length-take, take-append-drop}
 use Rattle.std.specs.List.{concat}
 use Rattle.bson_stream.specs.Standing.{in_document}
 use Rattle.bson_stream.specs as stream
@@ -12,21 +12,14 @@ use Rattle.engines.specs.Any.{IsOpenFrame}
 use Rattle.engines.specs.Documents.{TextRule}
 use Rattle.engines.specs.DocumentWalk.{document_tells, document_walk}
 use Rattle.engines.specs.FrameWalk.{any_tells, any_walk}
-use Rattle.engines.specs.InputFault.{hex_line}
 use Rattle.engines.specs.MessageWalk.{message_tells, message_walk}
 use Rattle.engines.specs.OrRecordsWalk.{Waits}
-use Rattle.engines.specs.Output.{IsLastBefore, or_nothing}
 use Rattle.engines.specs.ItemWalk.{ItemWalk, item_tells}
-use Rattle.engines.specs.Items.{AreItems, AreTextsOf, IsLastItem}
+use Rattle.engines.specs.Items.{AreItems, AreTextsOf}
 use Rattle.engines.proofs.DocumentReadings.{documents_kind}
 use Rattle.engines.proofs.FrameReadings.{frames_kind}
 use Rattle.engines.proofs.MessageReadings.{messages_kind}
 use Rattle.engines.proofs.ItemReadings.{IsKind}
-
--- the last line of an open rest, behind which hexadecimal text is at fault
-cut_line : (Open : List ℕ → Type 0) (Last : List ℕ → Option (List ℕ) → Type 0) (place : ℕ) (rest line : List ℕ) → Open rest → IsLastBefore Open Last (Some place) rest (Some line) → line ≡ hex_line place
-cut_line Open Last place rest line o (inl x) = ap or_nothing x.1
-cut_line Open Last place rest line o (inr x) = absurd (x.0 o)
 
 -- ---- items of a kind of which the first bytes of the signature are open
 
@@ -40,11 +33,10 @@ module _ {R : Type 0} (walk : ItemWalk R) (is_kind : IsKind (walk.kind walk.limi
   items_wait = record {
     silent = λ n texts few first.
         let h = first.1 in (no_items (take n signature) texts first.0 h.items (few_open n few) h.items_are h.joined h.texts_are).0;
-    cut = λ n place r texts line few ends.
-        let k = walk.kind walk.limit in
-        let h = ends.0.have in
-        let none = no_items (take n signature) texts ends.0.rest h.items (few_open n few) h.items_are h.joined h.texts_are in
-        cut_line k.is_open (IsLastItem k (walk.base + length (concat h.items))) place ends.0.rest line (subst k.is_open (sym none.1) (few_open n few)) ends.0.last_is;
+    sound = λ n r texts line few bad.
+        let h = bad.1.have in
+        let none = no_items (take n signature) texts bad.0 h.items (few_open n few) h.items_are h.joined h.texts_are in
+        is_kind.open_not_bad (walk.reading r).start (take n signature) line (few_open n few) (subst (λ (x : List ℕ). (walk.kind walk.limit).is_bad (walk.reading r).start x line) none.1 bad.2);
   }
 
 few_long : (n : ℕ) → n < 8 → length (take n signature) < 8

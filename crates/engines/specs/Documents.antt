@@ -6,9 +6,8 @@ use Rattle.bson_elem.specs.{Spells, Tree, fault}
 use Rattle.bson_raw.specs.{IsSpelled}
 use Rattle.bson_stream.specs.{IsBad, IsOpen}
 use Rattle.engines.specs.declared.input_fault.InputFault.TheVariants.{Bson}
-use Rattle.engines.specs.Input.{bytes_of}
 use Rattle.engines.specs.InputFault.{input_fault_line, too_large_line}
-use Rattle.engines.specs.Output.{AppendsOne, TextOf, WritesRead}
+use Rattle.engines.specs.Output.{AppendsOne, IsAllOf, IsFirstOf, TextOf, WritesRead}
 use Rattle.engines.specs.Items.{AllItems, FirstItems, ItemKind, ItemsText}
 
 -- ---- what a command writes for a document
@@ -59,11 +58,11 @@ FirstTexts rule = FirstItems (documents_of rule) 0
 abbrev pub AllTexts : TextRule → List ℕ → List ℕ → Type 0
 AllTexts rule = AllItems (documents_of rule) 0
 
--- Known bytes grow by the texts of the first few documents in the bytes of an input.
+-- Known bytes grow by the texts of the first few documents of an input.
 abbrev pub AppendsFirst : TextRule → Bool → List ℕ → Option (List ℕ) → Option (List ℕ) → Type 0
-AppendsFirst rule hex input = AppendsOne (FirstTexts rule (bytes_of hex input))
+AppendsFirst rule hex input = AppendsOne (IsFirstOf (FirstTexts rule) hex input)
 
--- An input was read so far, and the texts of all documents in its bytes were written.
+-- An input was read so far, and the texts of all its documents were written, with `--hex` none.
 abbrev pub WritesAll : TextRule → Bool → Option (List ℕ) → Option (List ℕ)
     → Option (List ℕ) → Option (List ℕ) → Type 0
-WritesAll rule hex = WritesRead (λ read. AllTexts rule (bytes_of hex read))
+WritesAll rule hex = WritesRead (IsAllOf (AllTexts rule) hex)

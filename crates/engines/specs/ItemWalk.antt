@@ -58,11 +58,16 @@ pub record StandAt {R : Type 0} (w : ItemWalk R) (r : R) (bytes texts rest : Lis
   pub start_is : (w.reading r).start ≡ w.base + length (concat have.items)
 
 -- the bytes are items and a rest, and these are the last line, and where the reader stands
-abbrev pub EndAt : {R : Type 0} → ItemWalk R → R → Option ℕ → List ℕ → List ℕ → Option (List ℕ)
-    → Type 0
-EndAt w r place bytes texts last =
-    (are : ItemsAre (w.kind w.limit) w.base place bytes texts last)
+abbrev pub EndAt : {R : Type 0} → ItemWalk R → R → List ℕ → List ℕ → Option (List ℕ) → Type 0
+EndAt w r bytes texts last =
+    (are : ItemsAre (w.kind w.limit) w.base bytes texts last)
     × ((w.reading r).start ≡ w.base + length (concat are.have.items))
+
+-- the bytes are items, and a rest that is at fault, whatever follows it
+abbrev pub BadAt : {R : Type 0} → ItemWalk R → R → List ℕ → List ℕ → List ℕ → Type 0
+BadAt w r bytes texts line =
+    (rest : List ℕ) × StandAt w r bytes texts rest
+    × (w.kind w.limit).is_bad (w.reading r).start rest line
 
 -- what is told of such items
 abbrev pub item_tells : {R : Type 0} → ItemWalk R → Tells R
@@ -70,6 +75,7 @@ item_tells w = record {
   stands = λ r read texts.
       StandAt w r read texts (w.reading r).held × (w.kind w.limit).is_open (w.reading r).held;
   ends = EndAt w;
+  is_bad = BadAt w;
   first = FirstItems (w.kind w.limit) w.base;
   all = AllItems (w.kind w.limit) w.base;
   whole = ItemsText (w.kind w.limit) w.base w.closing;

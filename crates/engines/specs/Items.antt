@@ -3,7 +3,7 @@
 use Rattle.std.specs.Prelude.{◌≡◌, ◌⊎◌, ℕ, ◌+◌, List, [], ◌∷◌, ◌++◌, length, Bool, true, false, ⊤}
 use Rattle.std.specs.Prelude.{Option, None, Some}
 use Rattle.std.specs.List.{concat}
-use Rattle.engines.specs.Output.{IsLastBefore, TextOf, is_there, or_nothing}
+use Rattle.engines.specs.Output.{TextOf, is_there, or_nothing}
 
 -- A kind of items: which bytes are one; of which bytes more decide whether they begin with one; the
 -- line of an input that ends inside the one that begins at an offset; which bytes, of which the
@@ -44,17 +44,13 @@ IsLastItem k start (b ∷ bs) last =
     (k.is_open (b ∷ bs) × (last ≡ Some (k.inside_line start)))
     ⊎ ((line : List ℕ) × k.is_bad start (b ∷ bs) line × (last ≡ Some line))
 
--- the same, where behind the rest the input isn't hexadecimal text at this place, if there is one
-abbrev pub IsLastItemAt : ItemKind → ℕ → Option ℕ → List ℕ → Option (List ℕ) → Type 0
-IsLastItemAt k start place rest last = IsLastBefore k.is_open (IsLastItem k start) place rest last
-
 -- The bytes, which begin at this offset, are items and a rest: what may be written for the items,
 -- joined, and the last line.
-pub record ItemsAre (k : ItemKind) (start : ℕ) (place : Option ℕ) (bytes texts : List ℕ)
-    (last : Option (List ℕ)) : Type 0 where
+pub record ItemsAre (k : ItemKind) (start : ℕ) (bytes texts : List ℕ) (last : Option (List ℕ)) :
+    Type 0 where
   pub rest : List ℕ
   pub have : HaveItems k start bytes texts rest
-  pub last_is : IsLastItemAt k (start + length (concat have.items)) place rest last
+  pub last_is : IsLastItem k (start + length (concat have.items)) rest last
 
 -- whether there are items
 abbrev pub are_there : List (List ℕ) → Bool
@@ -64,8 +60,8 @@ are_there (p ∷ ps) = true
 -- What is written for bytes that begin at this offset, and whether it ends with a fault line: the
 -- texts of the items, what follows them all, by whether there are any, and the last line.
 abbrev pub ItemsText : ItemKind → ℕ → (Bool → List ℕ) → TextOf
-ItemsText k start closing place bytes text fault =
-    (texts : List ℕ) × (last : Option (List ℕ)) × (are : ItemsAre k start place bytes texts last)
+ItemsText k start closing bytes text fault =
+    (texts : List ℕ) × (last : Option (List ℕ)) × (are : ItemsAre k start bytes texts last)
     × (text ≡ texts ++ (closing (are_there are.have.items) ++ or_nothing last))
     × (fault ≡ is_there last)
 
@@ -77,4 +73,4 @@ FirstItems k start bytes texts = (rest : List ℕ) × HaveItems k start bytes te
 
 -- the texts of all of them, up to the first fault
 abbrev pub AllItems : ItemKind → ℕ → List ℕ → List ℕ → Type 0
-AllItems k start bytes texts = (last : Option (List ℕ)) × ItemsAre k start None bytes texts last
+AllItems k start bytes texts = (last : Option (List ℕ)) × ItemsAre k start bytes texts last

@@ -10,7 +10,6 @@ pub mod Source
 pub mod Walk
 pub mod Items
 pub mod ItemWalk
-pub mod HexWalk
 pub mod DocumentWalk
 pub mod Salvaged
 pub mod SalvageWalk
@@ -45,7 +44,8 @@ pub use Rattle.engines.specs.Json.{JsonText, MayBeJson}
 pub use Rattle.engines.specs.Loopback.{AppendsUpTo, HaveRun, HaveTold, loop_text}
 pub use Rattle.engines.specs.Msg.{AllMessages, FirstMessages, MsgText}
 pub use Rattle.engines.specs.OrRecords.{AllOrRecords, FirstOrRecords, TextOrRecords, as_messages}
-pub use Rattle.engines.specs.Output.{AppendsOne, AppendsText, IsOutput, TextOf, WritesRead}
+pub use Rattle.engines.specs.Output.{AppendsOne, AppendsText, IsAllOf, IsFirstOf, IsOutput, TextOf}
+pub use Rattle.engines.specs.Output.{WritesRead}
 pub use Rattle.engines.specs.Play.{ScriptText}
 pub use Rattle.engines.specs.Run.{end_of_error, is_done, is_fault}
 pub use Rattle.engines.specs.Salvaged.{FirstSalvaged, SalvageText, SalvagedSoFar}

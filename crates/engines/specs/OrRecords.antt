@@ -20,9 +20,9 @@ RecordsOr Records Others bytes =
 -- What is written for bytes: of a file of records, which begins with the signature, the text of the
 -- records behind it; and of other bytes this text.
 abbrev pub TextOrRecords : RecordForm → TextOf → TextOf
-TextOrRecords form Others place bytes text fault =
-    RecordsOr (λ behind. RecordsText form place behind text fault)
-    (λ other. Others place other text fault) bytes
+TextOrRecords form Others bytes text fault =
+    RecordsOr (λ behind. RecordsText form behind text fault) (λ other. Others other text fault)
+    bytes
 
 -- the texts of the first few records of such a file; of other bytes these texts
 abbrev pub FirstOrRecords : RecordForm → (List ℕ → List ℕ → Type 0) → List ℕ → List ℕ → Type 0

@@ -1,17 +1,42 @@
 -- What a command writes for an input.
-use Rattle.std.specs.Prelude.{◌≡◌, ◌⊎◌, ℕ, Bool, true, false, List, [], Option, None, Some}
+use Rattle.std.specs.Prelude.{◌≡◌, ℕ, Bool, true, false, List, [], Option, None, Some}
 use Rattle.std.specs.Io.KnownBytes.{Appends, Consumes}
 use Rattle.engines.specs.InputFault.{hex_line}
 use Rattle.engines.specs.Input.{bytes_of, hex_fault}
 
--- What a command may write for bytes, and whether that ends with a fault line. Behind the bytes the
--- input isn't hexadecimal text, at this offset, if there is one.
+-- what a command may write for bytes, and whether that ends with a fault line
 abbrev pub TextOf : Type 1
-TextOf = Option ℕ → List ℕ → List ℕ → Bool → Type 0
+TextOf = List ℕ → List ℕ → Bool → Type 0
 
--- what a command writes for an input, by what it writes for bytes
+-- what is written for bytes; or where the text that was to spell them is at fault, the line of that
+-- alone
+abbrev pub OrHexFault : TextOf → Option ℕ → TextOf
+OrHexFault Text None bytes text fault = Text bytes text fault
+OrHexFault Text (Some place) bytes text fault = (text ≡ hex_line place) × (fault ≡ true)
+
+-- What a command writes for an input, by what it writes for bytes: with `--hex` the input is the
+-- bytes that the text spells, else the output is the line of its fault alone.
 abbrev pub IsOutput : TextOf → Bool → List ℕ → List ℕ → Bool → Type 0
-IsOutput Text hex input = Text (hex_fault hex input) (bytes_of hex input)
+IsOutput Text hex input = OrHexFault Text (hex_fault hex input) (bytes_of hex input)
+
+-- ---- where an input isn't read to its end
+
+-- What was written of an input that couldn't be read further, by what is written for the bytes so
+-- far: with `--hex` nothing.
+abbrev pub IsAllOf : (List ℕ → List ℕ → Type 0) → Bool → List ℕ → List ℕ → Type 0
+IsAllOf All false read texts = All read texts
+IsAllOf All true read texts = texts ≡ []
+
+-- the first few texts of bytes; or where the text that was to spell them is at fault, none
+abbrev pub OrNone : (List ℕ → List ℕ → Type 0) → Option ℕ → List ℕ → List ℕ → Type 0
+OrNone First None bytes texts = First bytes texts
+OrNone First (Some place) bytes texts = texts ≡ []
+
+-- What was written of an input where memory ran out, by the first few texts of bytes.
+abbrev pub IsFirstOf : (List ℕ → List ℕ → Type 0) → Bool → List ℕ → List ℕ → Type 0
+IsFirstOf First hex input = OrNone First (hex_fault hex input) (bytes_of hex input)
+
+-- ---- parts of texts
 
 -- a line, or nothing
 abbrev pub or_nothing : Option (List ℕ) → List ℕ
@@ -27,14 +52,7 @@ is_there (Some line) = true
 abbrev pub nothing : Bool → List ℕ
 nothing any = []
 
--- The last line of a rest, behind which the input isn't hexadecimal text at this offset, if there
--- is one: that of this fault, where more bytes would decide what the rest is, which `Open` tells;
--- and else what `Last` tells.
-abbrev pub IsLastBefore : (List ℕ → Type 0) → (List ℕ → Option (List ℕ) → Type 0) → Option ℕ
-    → List ℕ → Option (List ℕ) → Type 0
-IsLastBefore Open Last None rest last = Last rest last
-IsLastBefore Open Last (Some offset) rest last =
-    (Open rest × (last ≡ Some (hex_line offset))) ⊎ ((Open rest → ⊥) × Last rest last)
+-- ---- what was written
 
 -- known bytes grow by a text, and fault says whether it is that of an input with a fault
 abbrev pub AppendsText : (List ℕ → Bool → Type 0) → Bool → Option (List ℕ) → Option (List ℕ)

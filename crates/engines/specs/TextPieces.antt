@@ -5,7 +5,6 @@ use Rattle.std.specs.Io.KnownBytes.{Appends}
 use Rattle.bson_json_read.specs.declared.frame.Frame.TheVariants.{Start}
 use Rattle.bson_json_read.specs.{Held, IsOpen, Left, MayFollow, Pair, ReadsTo}
 use Rattle.bson_json_read.specs.{place_behind}
-use Rattle.engines.specs.declared.bson.TextStop.{TextStop}
 use Rattle.engines.specs.declared.texts.Passed.{Passed}
 use Rattle.engines.specs.declared.texts.Passed.TheVariants.{Wanted, Over}
 use Rattle.engines.specs.BsonOf.{IsPlaced, StopsAt, bytes_of_each}

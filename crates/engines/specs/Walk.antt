@@ -7,16 +7,17 @@ use Rattle.engines.specs.declared.run.RunEnd.{RunEnd}
 use Rattle.engines.specs.declared.run.RunEnd.TheVariants as run
 use Rattle.engines.specs.declared.walk.Stop.{Stop}
 use Rattle.engines.specs.declared.walk.Stop.TheVariants as stop
-use Rattle.engines.specs.InputFault.{hex_line, input_fault_line, line_of}
+use Rattle.engines.specs.InputFault.{input_fault_line, line_of}
 use Rattle.engines.specs.Output.{TextOf}
 
 -- What a command tells of bytes, and of the texts of the documents or messages in them: how a
--- reader stands that more bytes may follow; where bytes end, behind which the input isn't
--- hexadecimal text at this place, if there is one, and their last line; the texts of the first few;
--- those of all, up to the first fault; and the whole text, and whether it ends with a fault line.
+-- reader stands that more bytes may follow; where bytes end, and their last line; where they are at
+-- fault, whatever follows them, and the line of that; the texts of the first few; those of all, up
+-- to the first fault; and the whole text, and whether it ends with a fault line.
 pub record Tells (Reader : Type 0) : Type 1 where
   pub stands : Reader → List ℕ → List ℕ → Type 0
-  pub ends : Reader → Option ℕ → List ℕ → List ℕ → Option (List ℕ) → Type 0
+  pub ends : Reader → List ℕ → List ℕ → Option (List ℕ) → Type 0
+  pub is_bad : Reader → List ℕ → List ℕ → List ℕ → Type 0
   pub first : List ℕ → List ℕ → Type 0
   pub all : List ℕ → List ℕ → Type 0
   pub whole : TextOf
@@ -26,16 +27,16 @@ abbrev pub StaysFirst : {R : Type 0} → Tells R → List ℕ → List ℕ → T
 StaysFirst t bytes texts = (more : List ℕ) → t.first (bytes ++ more) texts
 
 -- These bytes were read, and these texts were written for them, all there are. More bytes may
--- follow, or what isn't hexadecimal text.
+-- follow.
 pub record IsBetween {R : Type 0} (t : Tells R) (r : R) (read texts : List ℕ) : Type 0 where
   pub stands : t.stands r read texts
   pub all : t.all read texts
   pub first : StaysFirst t read texts
-  pub cut : (place : ℕ) → t.ends r (Some place) read texts (Some (hex_line place))
 
 -- The bytes are at fault where the reader stands.
 pub record IsAtFault {R : Type 0} (t : Tells R) (r : R) (bytes texts line : List ℕ) : Type 0 where
-  pub ends : (place : Option ℕ) → t.ends r place bytes texts (Some line)
+  pub ends : t.ends r bytes texts (Some line)
+  pub is_bad : t.is_bad r bytes texts line
   pub all : t.all bytes texts
   pub first : StaysFirst t bytes texts
 
@@ -56,7 +57,7 @@ Walks t new bytes texts stop from to =
 -- How an input ended of which these bytes were read: all of it was read, and this is its fault;
 -- reading failed; or memory ran out.
 abbrev pub IsEnding : {R : Type 0} → Tells R → R → List ℕ → List ℕ → Ending → Type 0
-IsEnding t r read texts (ending.Whole last) = t.ends r None read texts (line_of last)
+IsEnding t r read texts (ending.Whole last) = t.ends r read texts (line_of last)
 IsEnding t r read texts (ending.Cut run.Unread) = t.all read texts
 IsEnding t r read texts (ending.Cut run.OutOfMemory) = StaysFirst t read texts
 IsEnding t r read texts _ = ⊥
@@ -72,9 +73,9 @@ Ends t r k from to old new =
 abbrev pub IsFinish : {R : Type 0} → Tells R → List ℕ → List ℕ → RunEnd → Option (List ℕ)
     → Option (List ℕ) → Type 0
 IsFinish t read texts run.Good old new =
-    (behind : List ℕ) × t.whole None read (texts ++ behind) false × Appends old new behind
+    (behind : List ℕ) × t.whole read (texts ++ behind) false × Appends old new behind
 IsFinish t read texts run.Fault old new =
-    (behind : List ℕ) × t.whole None read (texts ++ behind) true × Appends old new behind
+    (behind : List ℕ) × t.whole read (texts ++ behind) true × Appends old new behind
 IsFinish t read texts run.Unread old new = t.all read texts × Keeps old new
 IsFinish t read texts run.OutOfMemory old new = StaysFirst t read texts × Keeps old new
 IsFinish t read texts run.InOut old new = Unit {0}

@@ -3,9 +3,9 @@
 ghost use Rattle.std.specs.Prelude.{◌≡◌, IfSome, true};
 ghost use Rattle.std.specs.Io.KnownBytes.{IsAtEnd};
 ghost use Rattle.engines.specs.Any.{AllFrames, AnyText, FirstFrames};
-ghost use Rattle.engines.specs.Input.{bytes_of};
 ghost use Rattle.engines.specs.OrRecords.{AllOrRecords, FirstOrRecords, TextOrRecords};
-ghost use Rattle.engines.specs.Output.{AppendsOne, AppendsText, IsOutput, WritesRead};
+ghost use Rattle.engines.specs.Output.{AppendsOne, AppendsText, IsAllOf, IsFirstOf, IsOutput};
+ghost use Rattle.engines.specs.Output.{WritesRead};
 ghost use Rattle.engines.specs.Run.{is_done, is_fault};
 
 use crate::frames::Frames;
@@ -35,11 +35,11 @@ pub fn run_any<R: Read, W: Write>(
         AppendsText (IsOutput (TextOrRecords RecordForm.Text AnyText) hex input)
         (is_fault result) (W.contents writer.old) (W.contents writer.new)) }
     ensures unread { result ≡ RunEnd.Unread
-        → WritesRead (λ read. AllOrRecords RecordForm.Text AllFrames (bytes_of hex read))
+        → WritesRead (IsAllOf (AllOrRecords RecordForm.Text AllFrames) hex)
         (R.remaining reader.old) (R.remaining reader.new)
         (W.contents writer.old) (W.contents writer.new) }
     ensures memory { result ≡ RunEnd.OutOfMemory → IfSome (R.remaining reader.old) (λ input.
-        AppendsOne (FirstOrRecords RecordForm.Text FirstFrames (bytes_of hex input))
+        AppendsOne (IsFirstOf (FirstOrRecords RecordForm.Text FirstFrames) hex input)
         (W.contents writer.old) (W.contents writer.new)) }
 {
     let form = RecordForm::Text;

@@ -11,9 +11,8 @@ ghost use Rattle.engines.specs.Run.{IsCutShort, is_done};
 ghost use Rattle.engines.specs.TextPieces.{HaveRead, IsBegun, IsPassed};
 
 use crate::buffered::Buffered;
-use crate::pieces::{PIECE, read_piece};
 use crate::run::{BUFFER, RunEnd};
-use crate::source::read_rest;
+use crate::source::{PIECE, read_piece, read_rest};
 use crate::texts::{Passed, Texts};
 use bson_doc::DocRefusal;
 use bson_json_read::TextFault;

@@ -3,10 +3,10 @@
 ghost use Rattle.std.specs.Prelude.{◌≡◌, ◌⊎◌, IfOk, IfSome, OnOk, false, true};
 ghost use Rattle.std.specs.Io.KnownBytes.{Appends, IsAtEnd};
 ghost use Rattle.engines.specs.Documents.{AllTexts, FirstTexts};
-ghost use Rattle.engines.specs.Input.{bytes_of};
 ghost use Rattle.engines.specs.Json.{JsonText, MayBeJson, behind_values, front_of, end_of_value};
 ghost use Rattle.engines.specs.OrRecords.{AllOrRecords, FirstOrRecords, TextOrRecords};
-ghost use Rattle.engines.specs.Output.{AppendsOne, AppendsText, IsOutput, WritesRead};
+ghost use Rattle.engines.specs.Output.{AppendsOne, AppendsText, IsAllOf, IsFirstOf, IsOutput};
+ghost use Rattle.engines.specs.Output.{WritesRead};
 ghost use Rattle.engines.specs.Run.{is_done, is_fault};
 
 use crate::documents::{Documents, EachDocument, Written};
@@ -107,13 +107,13 @@ pub fn run_json<R: Read, W: Write>(
     ensures written { IfSome (R.remaining reader.old) (λ input. is_done result ≡ true →
         AppendsText (IsOutput (TextOrRecords (RecordForm.Json mode layout) (JsonText mode layout))
         hex input) (is_fault result) (W.contents writer.old) (W.contents writer.new)) }
-    ensures unread { result ≡ RunEnd.Unread → WritesRead (λ read.
-        AllOrRecords (RecordForm.Json mode layout) (AllTexts (MayBeJson mode layout))
-        (bytes_of hex read)) (R.remaining reader.old) (R.remaining reader.new)
+    ensures unread { result ≡ RunEnd.Unread → WritesRead (IsAllOf
+        (AllOrRecords (RecordForm.Json mode layout) (AllTexts (MayBeJson mode layout))) hex)
+        (R.remaining reader.old) (R.remaining reader.new)
         (W.contents writer.old) (W.contents writer.new) }
     ensures memory { result ≡ RunEnd.OutOfMemory → IfSome (R.remaining reader.old) (λ input.
-        AppendsOne (FirstOrRecords (RecordForm.Json mode layout)
-        (FirstTexts (MayBeJson mode layout)) (bytes_of hex input))
+        AppendsOne (IsFirstOf (FirstOrRecords (RecordForm.Json mode layout)
+        (FirstTexts (MayBeJson mode layout))) hex input)
         (W.contents writer.old) (W.contents writer.new)) }
 {
     let each = Json { mode, layout };

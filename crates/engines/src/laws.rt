@@ -13,43 +13,40 @@ ghost use Rattle.wire_record.specs.{signature};
 
 /// Proves that bytes have at most one text as documents, which ends with a fault line or doesn't,
 /// whatever a command writes for a document and behind all of them, if a function of the document
-/// and of the offset at which it begins tells it; also where the input isn't hexadecimal text at
-/// some place behind the bytes.
+/// and of the offset at which it begins tells it.
 pub fn one_text()
-    ensures { (text_of : ℕ → Tree → Option (List ℕ)) (closing : Bool → List ℕ) (place : Option ℕ)
+    ensures { (text_of : ℕ → Tree → Option (List ℕ)) (closing : Bool → List ℕ)
         (bytes text other : List ℕ) (fault other_fault : Bool) → IsBytes bytes
-        → IsWholeText (told_at text_of) closing place bytes text fault
-        → IsWholeText (told_at text_of) closing place bytes other other_fault
+        → IsWholeText (told_at text_of) closing bytes text fault
+        → IsWholeText (told_at text_of) closing bytes other other_fault
         → (text ≡ other) × (fault ≡ other_fault) }
 {}
 
 /// Proves that bytes have at most one text as messages, which ends with a fault line or doesn't.
 pub fn one_text_of_messages()
-    ensures { (place : Option ℕ) (bytes text other : List ℕ) (fault other_fault : Bool)
-        → IsBytes bytes → MsgText Text place bytes text fault
-        → MsgText Text place bytes other other_fault
+    ensures { (bytes text other : List ℕ) (fault other_fault : Bool) → IsBytes bytes
+        → MsgText Text bytes text fault → MsgText Text bytes other other_fault
         → (text ≡ other) × (fault ≡ other_fault) }
 {}
 
 /// Proves that bytes have at most one text as messages of any opCode, which ends with a fault line
 /// or doesn't.
 pub fn one_text_of_frames()
-    ensures { (place : Option ℕ) (bytes text other : List ℕ) (fault other_fault : Bool)
-        → IsBytes bytes → AnyText place bytes text fault
-        → AnyText place bytes other other_fault
+    ensures { (bytes text other : List ℕ) (fault other_fault : Bool) → IsBytes bytes
+        → AnyText bytes text fault → AnyText bytes other other_fault
         → (text ≡ other) × (fault ≡ other_fault) }
 {}
 
 /// Proves that an input which may be a file of records has at most one text of `msg`, and one of
 /// `msg --any`, each of which ends with a fault line or doesn't.
 pub fn one_text_of_records()
-    ensures messages { (place : Option ℕ) (bytes text other : List ℕ) (fault other_fault : Bool)
-        → IsBytes bytes → TextOrRecords in_lines (MsgText Text) place bytes text fault
-        → TextOrRecords in_lines (MsgText Text) place bytes other other_fault
+    ensures messages { (bytes text other : List ℕ) (fault other_fault : Bool) → IsBytes bytes
+        → TextOrRecords in_lines (MsgText Text) bytes text fault
+        → TextOrRecords in_lines (MsgText Text) bytes other other_fault
         → (text ≡ other) × (fault ≡ other_fault) }
-    ensures frames { (place : Option ℕ) (bytes text other : List ℕ) (fault other_fault : Bool)
-        → IsBytes bytes → TextOrRecords in_lines AnyText place bytes text fault
-        → TextOrRecords in_lines AnyText place bytes other other_fault
+    ensures frames { (bytes text other : List ℕ) (fault other_fault : Bool) → IsBytes bytes
+        → TextOrRecords in_lines AnyText bytes text fault
+        → TextOrRecords in_lines AnyText bytes other other_fault
         → (text ≡ other) × (fault ≡ other_fault) }
 {}
 

@@ -7,12 +7,12 @@
 //! records. `run_play` reads all that the reader has before it writes. Each writes one text for its
 //! input, through a buffer of 64 KiB, which the writer gets when it is full, when a read gave less
 //! than a piece, and at the end, and that of `run_bson` behind each piece; and tells how that ended.
-//! Documents, messages or records stand back to back in the input, as bytes or as hexadecimal text;
-//! the input of `run_bson` is Extended JSON, and that of `run_play` a script of events. A fault in
-//! the input is told by the last line of the text, and by `run_bson` in what it returns.
-//! `salvage_check` and `salvage_canon` go on behind a fault; the one tells each, at its gap, and the
-//! other none. `run_loop` reads nothing: it makes calls over a connection of the program with
-//! itself.
+//! Documents, messages or records stand back to back in the input, as bytes or as hexadecimal text,
+//! which is read whole; the input of `run_bson` is Extended JSON, and that of `run_play` a script of
+//! events. A fault in the input is told by the last line of the text, and by `run_bson` in what it
+//! returns. `salvage_check` and `salvage_canon` go on behind a fault; the one tells each, at its gap,
+//! and the other none. `run_loop` reads nothing: it makes calls over a connection of the program
+//! with itself.
 //!
 //! Stands on bson_json_read, bson_stream, wire_frame, wire_record, wire_stream, wire_end and
 //! wire_play. bsonwire and proxy stand on it. Read first: `walk`, `pieces`, `documents`, and then `dump`.
@@ -29,7 +29,6 @@ mod fault_line;
 mod frame_text;
 mod frames;
 mod hex_input;
-mod hex_walk;
 mod input_fault;
 mod json;
 pub mod laws;

@@ -2,11 +2,11 @@
 
 ghost use Rattle.std.specs.Prelude.{◌≡◌, ◌⊎◌, IfOk, IfSome, false, true};
 ghost use Rattle.std.specs.Io.KnownBytes.{IsAtEnd, Keeps};
-ghost use Rattle.engines.specs.Input.{bytes_of};
 ghost use Rattle.engines.specs.Msg.{AllMessages, FirstMessages, MsgText};
 ghost use Rattle.engines.specs.OrRecords.{AllOrRecords, FirstOrRecords, TextOrRecords};
 ghost use Rattle.engines.specs.OrRecords.{as_messages};
-ghost use Rattle.engines.specs.Output.{AppendsOne, AppendsText, IsOutput, WritesRead};
+ghost use Rattle.engines.specs.Output.{AppendsOne, AppendsText, IsAllOf, IsFirstOf, IsOutput};
+ghost use Rattle.engines.specs.Output.{WritesRead};
 ghost use Rattle.engines.specs.Run.{is_done, is_fault};
 
 use crate::json::Layout;
@@ -58,12 +58,11 @@ pub fn run_msg<R: Read, W: Write>(
         AppendsText (IsOutput (TextOrRecords (as_messages form) (MsgText form)) hex input)
         (is_fault result) (W.contents writer.old) (W.contents writer.new)) }
     ensures unread { result ≡ RunEnd.Unread
-        → WritesRead (λ read. AllOrRecords (as_messages form) (AllMessages form)
-        (bytes_of hex read))
+        → WritesRead (IsAllOf (AllOrRecords (as_messages form) (AllMessages form)) hex)
         (R.remaining reader.old) (R.remaining reader.new)
         (W.contents writer.old) (W.contents writer.new) }
     ensures memory { result ≡ RunEnd.OutOfMemory → IfSome (R.remaining reader.old) (λ input.
-        AppendsOne (FirstOrRecords (as_messages form) (FirstMessages form) (bytes_of hex input))
+        AppendsOne (IsFirstOf (FirstOrRecords (as_messages form) (FirstMessages form)) hex input)
         (W.contents writer.old) (W.contents writer.new)) }
 {
     let walk = OrRecords {

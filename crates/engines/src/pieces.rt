@@ -1,31 +1,28 @@
 //! Reads an input piece by piece, and writes what a command makes of its documents or messages.
 //!
 //! Between two pieces there is the document or message that isn't whole yet, and the text that the
-//! writer didn't take yet. Nothing else of the input is held, but for a digit of hexadecimal text.
+//! writer didn't take yet. Nothing else of the input is held. Hexadecimal text is read whole before,
+//! and the bytes that it spells are held.
 
-ghost use Rattle.std.specs.Prelude.{◌≡◌, ◌⊎◌, ◌+◌, ◌<◌, ◌≤◌, ◌^◌, ◌++◌, IfErr, IfOk, IfSome, List};
-ghost use Rattle.std.specs.Prelude.{None, Ok, OnErr, OnOk, Option, [], length, take, true, ℕ};
+ghost use Rattle.std.specs.Prelude.{◌≡◌, ◌⊎◌, ◌<◌, ◌++◌, IfOk, IfSome, List, Ok, OnOk};
+ghost use Rattle.std.specs.Prelude.{Option, [], length, true, ℕ};
 ghost use Rattle.std.specs.Io.KnownBytes.{Consumes, IsAtEnd, Keeps, append_known};
 ghost use Rattle.engines.specs.Buffered.{buffered_contents};
-ghost use Rattle.engines.specs.Input.{bytes_of};
-ghost use Rattle.engines.specs.Output.{AppendsOne, AppendsText, IsOutput, WritesRead};
+ghost use Rattle.engines.specs.Output.{AppendsOne, AppendsText, IsAllOf, IsFirstOf, IsOutput};
+ghost use Rattle.engines.specs.Output.{WritesRead};
 ghost use Rattle.engines.specs.Run.{IsCutShort, is_done, is_fault};
-ghost use Rattle.engines.specs.Source.{given};
 ghost use Rattle.engines.specs.Walk.{Ends, IsBetween, IsEnding, IsFinish, Tells, Walks};
 
 use crate::buffered::Buffered;
-use crate::hex_walk::HexWalk;
+use crate::hex_input::read_hex;
 use crate::input_fault::InputFault;
 use crate::run::{BUFFER, RunEnd};
-use crate::source::{read_once, read_rest};
+use crate::source::{PIECE, read_piece, read_rest};
 use crate::walk::{Stop, Walk};
 use core::mem::replace_with;
 use std::alloc::Global;
 use std::io;
 use std::io::{ErrorKind, Read, Write};
-
-/// The most bytes that are read at once.
-pub const PIECE: usize = 64 * 1024;
 
 /// How an input ended.
 #[derive(Clone, Copy)]
@@ -118,29 +115,6 @@ fn pass_piece<E: Walk, W: Write>(
         piece,
     };
     replace_with(writer, job, pass_through)
-}
-
-/// Reads the next piece into `room`, as `read_once` does. Errs also where no offset counts its
-/// bytes, of which `so_far` were read.
-pub fn read_piece<R: Read>(
-    so_far: usize,
-    reader: &mut R,
-    room: &mut [u8],
-) -> Result<Option<usize>, RunEnd>
-    requires { 0 < length room.old }
-    ensures size { length room.new ≡ length room.old }
-    ensures within { IfOk result (λ n. given n ≤ length room.new) }
-    ensures read { IfOk result (λ n. Consumes (R.remaining reader.old) (R.remaining reader.new)
-        (take (given n) room.new)) }
-    ensures counted { IfOk result (λ n. length room.old ≤ PIECE → so_far + given n < 2 ^ 64) }
-    ensures ended { result ≡ Ok None → IsAtEnd (R.remaining reader.new) }
-    ensures unread { OnErr result (Keeps (R.remaining reader.old) (R.remaining reader.new)) }
-    ensures stopped { IfErr result (λ end. IsCutShort end) }
-{
-    if so_far > usize::MAX - PIECE {
-        return Err(RunEnd::Unread);
-    }
-    read_once(reader, room)
 }
 
 /// Reads the rest of an input that has this fault. Returns how the input ended.
@@ -285,7 +259,7 @@ fn run_pieces<E: Walk, R: Read, W: Write>(
     requires { IsBetween (E.tells each.now) begun [] [] }
     ensures read { is_done result ≡ true → IsAtEnd (R.remaining reader.new) }
     ensures written { IfSome (R.remaining reader.old) (λ input. is_done result ≡ true →
-        AppendsText (Tells.whole (E.tells each.now) None input) (is_fault result)
+        AppendsText (Tells.whole (E.tells each.now) input) (is_fault result)
         (W.contents writer.old) (W.contents writer.new)) }
     ensures unread { result ≡ RunEnd.Unread → WritesRead (Tells.all (E.tells each.now))
         (R.remaining reader.old) (R.remaining reader.new)
@@ -322,7 +296,8 @@ fn run_pieces<E: Walk, R: Read, W: Write>(
 }
 
 /// Writes what a command makes of what is in the input. If `hex` is true, the input is hexadecimal
-/// text, which is decoded piece by piece.
+/// text, which is read whole, since the number of its bytes decides first whether it has a fault: the
+/// command is run on the bytes that it spells, or only the line of its fault is written.
 pub fn run_walk<E: Walk, R: Read, W: Write>(
     alloc: Global,
     each: &E,
@@ -335,16 +310,31 @@ pub fn run_walk<E: Walk, R: Read, W: Write>(
         AppendsText (IsOutput (Tells.whole (E.tells each.now)) hex input)
         (is_fault result) (W.contents writer.old) (W.contents writer.new)) }
     ensures unread { result ≡ RunEnd.Unread
-        → WritesRead (λ read. Tells.all (E.tells each.now) (bytes_of hex read))
+        → WritesRead (IsAllOf (Tells.all (E.tells each.now)) hex)
         (R.remaining reader.old) (R.remaining reader.new)
         (W.contents writer.old) (W.contents writer.new) }
     ensures memory { result ≡ RunEnd.OutOfMemory → IfSome (R.remaining reader.old) (λ input.
-        AppendsOne (Tells.first (E.tells each.now) (bytes_of hex input))
+        AppendsOne (IsFirstOf (Tells.first (E.tells each.now)) hex input)
         (W.contents writer.old) (W.contents writer.new)) }
 {
-    if hex {
-        let walk = HexWalk { each };
-        return run_pieces(alloc, &walk, walk.start(alloc), reader, writer);
+    let begun = each.start(alloc);
+    if !hex {
+        return run_pieces(alloc, each, begun, reader, writer);
     }
-    run_pieces(alloc, each, each.start(alloc), reader, writer)
+    let text = match read_hex(alloc, reader) {
+        Ok(text) => text,
+        Err(end) => return end,
+    };
+    if let Some(offset) = text.fault() {
+        return match (InputFault::Hex { offset }).write(writer) {
+            Ok(()) => RunEnd::Fault,
+            Err(_) => RunEnd::InOut,
+        };
+    }
+    let mut bytes = text.bytes();
+    match run_pieces(alloc, each, begun, &mut bytes, writer) {
+        // No read of bytes fails.
+        RunEnd::Unread => RunEnd::InOut,
+        end => end,
+    }
 }

@@ -16,8 +16,8 @@ ghost use Rattle.engines.specs.SalvageWalk.{Passed, SalvageEnds, Wrote, end_of_p
 use crate::buffered::Buffered;
 use crate::documents::{EachDocument, Written};
 use crate::input_fault::InputFault;
-use crate::pieces::{PIECE, read_piece};
 use crate::run::{BUFFER, RunEnd};
+use crate::source::{PIECE, read_piece};
 use bson_stream::{Find, Gap, GapFault, Salvager};
 use core::mem::replace_with;
 use std::alloc::Global;

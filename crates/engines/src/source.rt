@@ -1,13 +1,16 @@
-//! Reads an input once, or to its end.
+//! Reads an input once, a piece at a time, or to its end.
 
-ghost use Rattle.std.specs.Prelude.{◌≡◌, ◌≤◌, ◌<◌, IfErr, IfOk, List, None, Ok, OnErr, OnOk};
-ghost use Rattle.std.specs.Prelude.{length, take, ℕ};
+ghost use Rattle.std.specs.Prelude.{◌≡◌, ◌+◌, ◌≤◌, ◌<◌, ◌^◌, IfErr, IfOk, List, None, Ok, OnErr};
+ghost use Rattle.std.specs.Prelude.{OnOk, length, take, ℕ};
 ghost use Rattle.std.specs.Io.KnownBytes.{Consumes, IsAtEnd, Keeps};
 ghost use Rattle.engines.specs.Run.{IsCutShort};
 ghost use Rattle.engines.specs.Source.{given};
 
 use crate::run::{RunEnd, end_of_read};
 use std::io::{ErrorKind, Read};
+
+/// The most bytes that are read at once.
+pub const PIECE: usize = 64 * 1024;
 
 /// Reads once into `room`. Returns how many bytes came, which may be none where a signal interrupted
 /// the call, or `None` at the end of the input. Errs with the end of a run that meets the reader's
@@ -28,6 +31,29 @@ pub fn read_once<R: Read>(reader: &mut R, room: &mut [u8]) -> Result<Option<usiz
         Err(error) if error.kind() == ErrorKind::Interrupted => Ok(Some(0)),
         Err(error) => Err(end_of_read(&error)),
     }
+}
+
+/// Reads the next piece into `room`, as `read_once` does. Errs also where no offset counts its
+/// bytes, of which `so_far` were read.
+pub fn read_piece<R: Read>(
+    so_far: usize,
+    reader: &mut R,
+    room: &mut [u8],
+) -> Result<Option<usize>, RunEnd>
+    requires { 0 < length room.old }
+    ensures size { length room.new ≡ length room.old }
+    ensures within { IfOk result (λ n. given n ≤ length room.new) }
+    ensures read { IfOk result (λ n. Consumes (R.remaining reader.old) (R.remaining reader.new)
+        (take (given n) room.new)) }
+    ensures counted { IfOk result (λ n. length room.old ≤ PIECE → so_far + given n < 2 ^ 64) }
+    ensures ended { result ≡ Ok None → IsAtEnd (R.remaining reader.new) }
+    ensures unread { OnErr result (Keeps (R.remaining reader.old) (R.remaining reader.new)) }
+    ensures stopped { IfErr result (λ end. IsCutShort end) }
+{
+    if so_far > usize::MAX - PIECE {
+        return Err(RunEnd::Unread);
+    }
+    read_once(reader, room)
 }
 
 /// Reads to the end of the input, and keeps nothing. What is in `room` is lost.

@@ -1,6 +1,6 @@
 //! What a command makes of documents or messages whose bytes come in pieces.
 
-ghost use Rattle.std.specs.Prelude.{[], ◌++◌, IfOk, List, None, OnOk, Option, ℕ};
+ghost use Rattle.std.specs.Prelude.{[], ◌++◌, IfOk, List, OnOk, Option, ℕ};
 ghost use Rattle.std.specs.Io.KnownBytes.{Appends};
 ghost use Rattle.engines.specs.InputFault.{line_of};
 ghost use Rattle.engines.specs.Output.{is_there, or_nothing};
@@ -50,13 +50,13 @@ pub trait Walk {
     /// Returns the fault of an input that ends where `reader` stands, if it has one.
     fn fault_at_end(&self, reader: &Self::Reader) -> Option<InputFault>
         ensures { (read texts : List ℕ) → IsBetween (tells self.now) reader.now read texts
-            → Tells.ends (tells self.now) reader.now None read texts (line_of result) };
+            → Tells.ends (tells self.now) reader.now read texts (line_of result) };
 
     /// Writes what follows the texts of an input that ends, or is at fault, where `reader` stands.
     fn write_closing<W: Write>(&self, reader: &Self::Reader, out: &mut W) -> io::Result<()>
-        ensures { (place : Option ℕ) (bytes texts : List ℕ) (last : Option (List ℕ))
-            → Tells.ends (tells self.now) reader.now place bytes texts last
+        ensures { (bytes texts : List ℕ) (last : Option (List ℕ))
+            → Tells.ends (tells self.now) reader.now bytes texts last
             → OnOk result ((closing : List ℕ)
-            × Tells.whole (tells self.now) place bytes (texts ++ (closing ++ or_nothing last))
+            × Tells.whole (tells self.now) bytes (texts ++ (closing ++ or_nothing last))
             (is_there last) × Appends (W.contents out.old) (W.contents out.new) closing) };
 }

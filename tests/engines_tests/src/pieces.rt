@@ -117,29 +117,26 @@ fn what_was_read_before_a_failed_read_is_written(rt: HostRuntime) {
     }
 }
 
-/// The digits of two documents of five bytes, and three more, the last of them alone.
-const DIGITS: &[u8] = b"05000000 00\n0500000000 05 0";
+/// The digits of two documents of five bytes, and of a byte more.
+const DIGITS: &[u8] = b"05000000 00\n0500000000 0 5";
 
-const ALL_OF_DIGITS: &str = "ok 5 canonical\nok 5 canonical\nfault 0 Hex at 23\n";
+const ALL_OF_DIGITS: &str = "ok 5 canonical\nok 5 canonical\nfault 1 Truncated at 10\n";
 
 /// The most bytes that a read of `DIGITS` gives, the number of the one that fails or 0, what `check` writes, and how it ends.
-const DIGIT_READS: [(usize, u64, &str, RunEnd); 12] = [
-    (27, 0, ALL_OF_DIGITS, RunEnd::Fault),
+const DIGIT_READS: [(usize, u64, &str, RunEnd); 9] = [
+    (26, 0, ALL_OF_DIGITS, RunEnd::Fault),
     (11, 0, ALL_OF_DIGITS, RunEnd::Fault),
-    (10, 0, ALL_OF_DIGITS, RunEnd::Fault),
     (3, 0, ALL_OF_DIGITS, RunEnd::Fault),
     (1, 0, ALL_OF_DIGITS, RunEnd::Fault),
     (1, 1, NONE, RunEnd::Unread),
-    (1, 11, NONE, RunEnd::Unread),
-    (1, 12, ONE, RunEnd::Unread),
-    (1, 22, ONE, RunEnd::Unread),
-    (1, 23, TWO, RunEnd::Unread),
-    (27, 2, TWO, RunEnd::Unread),
-    (11, 2, ONE, RunEnd::Unread),
+    (1, 12, NONE, RunEnd::Unread),
+    (1, 27, NONE, RunEnd::Unread),
+    (26, 2, NONE, RunEnd::Unread),
+    (11, 2, NONE, RunEnd::Unread),
 ];
 
 #[test]
-fn digits_that_were_read_before_a_failed_read_are_written(rt: HostRuntime) {
+fn digits_are_read_whole_before_anything_is_written(rt: HostRuntime) {
     for (step, fails_at, text, end) in &DIGIT_READS {
         assert!(rt;
             is_read(rt.alloc(), true, DIGITS, (*step, *fails_at), text, *end),
@@ -148,16 +145,13 @@ fn digits_that_were_read_before_a_failed_read_are_written(rt: HostRuntime) {
     }
 }
 
-/// Two documents, and then what isn't hexadecimal text; and two of which the second is at fault before that.
-const FAULTS: [(&[u8], &str); 2] = [
-    (
-        b"0500000000 0500000000 0 g0",
-        "ok 5 canonical\nok 5 canonical\nfault 0 Hex at 21\n",
-    ),
-    (
-        b"0500000000 0500000001 0 g0",
-        "ok 5 canonical\nfault 3 End at 5\n",
-    ),
+/// Documents, and what isn't hexadecimal text: a byte that is no digit, also behind a document at fault, and a number of bytes that
+/// is odd, also where one of them is no digit.
+const FAULTS: [(&[u8], &str); 4] = [
+    (b"0500000000 0500000000 0 g0 0", "fault 0 Hex at 21\n"),
+    (b"0500000000 0500000001 0 g0 0", "fault 0 Hex at 21\n"),
+    (b"0500000000 0500000000 0 00", "fault 0 Hex at 23\n"),
+    (b"0500000000 z500000000 0 00", "fault 0 Hex at 23\n"),
 ];
 
 #[test]

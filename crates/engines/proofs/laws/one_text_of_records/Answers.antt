@@ -8,8 +8,8 @@ use Rattle.engines.proofs.laws.one_text_of_records.Goals as goal
 
 pub returns : goal.returns
 returns c = record {
-  messages = λ place bytes text other fault other_fault fits.
-      one_text_or_records (MsgText Text) place bytes fits (λ a b f g x y. one_msg_text place bytes a b f g fits x y) text other fault other_fault;
-  frames = λ place bytes text other fault other_fault fits.
-      one_text_or_records AnyText place bytes fits (λ a b f g x y. one_any_text place bytes a b f g fits x y) text other fault other_fault;
+  messages = λ bytes text other fault other_fault fits.
+      one_text_or_records (MsgText Text) bytes fits (λ a b f g x y. one_msg_text bytes a b f g fits x y) text other fault other_fault;
+  frames = λ bytes text other fault other_fault fits.
+      one_text_or_records AnyText bytes fits (λ a b f g x y. one_any_text bytes a b f g fits x y) text other fault other_fault;
 }

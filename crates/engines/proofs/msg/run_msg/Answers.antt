@@ -1,11 +1,10 @@
-use Rattle.std.proofs.Common.{◌≡◌, List, ℕ, subst, true}
+use Rattle.std.proofs.Common.{◌≡◌, subst, true}
 use Rattle.std.specs.Prelude.{IfSome}
 use Rattle.engines.specs.declared.record_text.RecordForm.{RecordForm}
 use Rattle.engines.specs.declared.run.RunEnd.TheVariants.{OutOfMemory, Unread}
-use Rattle.engines.specs.Input.{bytes_of}
 use Rattle.engines.specs.Msg.{AllMessages, FirstMessages, MsgText}
 use Rattle.engines.specs.OrRecords.{AllOrRecords, FirstOrRecords, TextOrRecords}
-use Rattle.engines.specs.Output.{AppendsOne, AppendsText, IsOutput, WritesRead}
+use Rattle.engines.specs.Output.{AppendsOne, AppendsText, IsAllOf, IsFirstOf, IsOutput, WritesRead}
 use Rattle.engines.specs.Run.{is_done, is_fault}
 use Rattle.engines.proofs.WaitLemmas.{messages_wait}
 use Rattle.engines.proofs.msg.run_msg.Goals as goal
@@ -27,7 +26,7 @@ returns-clause-unread g c =
     let to = g.R.Read.remaining c.run_walk.new.reader in
     let old = g.W.Write.contents c.args.writer.now in
     let new = g.W.Write.contents c.run_walk.new.writer in
-    subst (λ (f : RecordForm). c.run_walk.result ≡ Unread → WritesRead (λ (read : List ℕ). AllOrRecords f (AllMessages c.args.form) (bytes_of c.args.hex read)) from to old new)
+    subst (λ (f : RecordForm). c.run_walk.result ≡ Unread → WritesRead (IsAllOf (AllOrRecords f (AllMessages c.args.form)) c.args.hex) from to old new)
     c.of_records.ensures c.run_walk.ensures.unread
 
 pub returns-clause-memory : goal.returns-clause-memory
@@ -35,4 +34,4 @@ returns-clause-memory g c =
     let from = g.R.Read.remaining c.args.reader.now in
     let old = g.W.Write.contents c.args.writer.now in
     let new = g.W.Write.contents c.run_walk.new.writer in
-    subst (λ (f : RecordForm). c.run_walk.result ≡ OutOfMemory → IfSome from (λ input. AppendsOne (FirstOrRecords f (FirstMessages c.args.form) (bytes_of c.args.hex input)) old new)) c.of_records.ensures c.run_walk.ensures.memory
+    subst (λ (f : RecordForm). c.run_walk.result ≡ OutOfMemory → IfSome from (λ input. AppendsOne (IsFirstOf (FirstOrRecords f (FirstMessages c.args.form)) c.args.hex input) old new)) c.of_records.ensures c.run_walk.ensures.memory

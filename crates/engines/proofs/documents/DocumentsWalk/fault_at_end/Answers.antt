@@ -1,4 +1,4 @@
-use Rattle.std.proofs.Common.{◌≡◌, ◌≢◌, [], None, Some, subst, sym}
+use Rattle.std.proofs.Common.{◌≡◌, ◌≢◌, [], Some, subst, sym}
 use Rattle.bson_elem.specs.declared.fault.BsonCause.TheVariants.{Truncated}
 use Rattle.bson_elem.specs.declared.fault.BsonFault.{BsonFault}
 use Rattle.bson_elem.specs.{fault}
@@ -24,4 +24,4 @@ returns-in-Err g c = λ read texts b.
     let r = c.args.reader.now in
     let some : r.held ≢ [] = λ none. let e = c.in-Err.ensures.between none in cc in
     let told : c.in-Err.fault ≡ fault r.start Truncated = let e = c.in-Err.ensures.inside b.stands.1 some in cc in
-    subst (λ (f : BsonFault). EndAt walk r None read texts (Some (input_fault_line (Bson f)))) (sym told) (ends_inside walk (documents_kind rule) r read texts b some)
+    subst (λ (f : BsonFault). EndAt walk r read texts (Some (input_fault_line (Bson f)))) (sym told) (ends_inside walk (documents_kind rule) r read texts b some)

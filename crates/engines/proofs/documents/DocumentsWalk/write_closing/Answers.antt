@@ -6,7 +6,7 @@ use Rattle.engines.proofs.ItemReadings.{closing_told}
 use Rattle.engines.proofs.documents.DocumentsWalk.write_closing.Goals as goal
 
 pub returns : goal.returns
-returns g c = λ place bytes texts last e.
+returns g c = λ bytes texts last e.
     let rule = g.E.EachDocument.rule c.args.self.now.each in
-    closing_told (document_walk rule (g.E.EachDocument.closing c.args.self.now.each)) (documents_kind rule) c.write_closing.result _ _ c.args.reader.now _ place bytes texts last e
+    closing_told (document_walk rule (g.E.EachDocument.closing c.args.self.now.each)) (documents_kind rule) c.write_closing.result _ _ c.args.reader.now _ bytes texts last e
     (ap (λ (n : ℕ). g.E.EachDocument.closing c.args.self.now.each (nat_lt 0 n)) c.start-any.ensures) c.write_closing.ensures

@@ -1,9 +1,9 @@
-use Rattle.std.proofs.Common.{◌≤◌, ◌+◌, drop}
-use Rattle.engines.proofs.HexLemmas.{Decodes}
+use Rattle.std.proofs.Common.{◌≤◌, ◌+◌, ◌++◌, List, ℕ, take}
+use Rattle.engines.specs.Input.{IsDecoded, packed}
 use Rattle.engines.proofs.hex_input.HexText.decode.Given as goal
 
--- what the front of the piece spells was put into the bytes
+-- the front of the piece was decoded behind the text before it
 abbrev pub invariant-loop-byte : goal.invariant-loop-byte
 invariant-loop-byte l =
-    (l.self.digits ≤ l.initial.self.digits + l.byte-index)
-    × Decodes l.initial.self l.piece l.bytes.items l.self (drop l.byte-index l.piece)
+    (l.self.count ≤ l.initial.self.count + l.byte-index)
+    × ((text : List ℕ) → IsDecoded l.initial.self (packed text) → IsDecoded l.self (packed (text ++ take l.byte-index l.piece)))

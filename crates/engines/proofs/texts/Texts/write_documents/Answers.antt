@@ -1,4 +1,4 @@
-use Rattle.std.proofs.Common.{◌≡◌, ◌∙◌, ◌+◌, ◌<◌, ◌≤◌, List, Option, ℕ, None, Some, Ok, length, refl, sym, subst, ap, arith}
+use Rattle.std.proofs.Common.{◌≡◌, ◌∙◌, ◌+◌, ◌<◌, ◌≤◌, Some, Ok, length, refl, sym, subst, ap, arith}
 use Rattle.std.specs.Io.KnownBytes.{Appends}
 use Rattle.bson_json_read.specs.declared.texts.NextBytes.{NextBytes}
 use Rattle.bson_json_read.specs.declared.texts.NextBytes.TheVariants.{AtEnd, Document, Refused as NoBytes}
