@@ -20,6 +20,24 @@ use std::alloc::{AllocError, Global};
 /// What help says of FILE.
 const FILE_HELP: &str = "The file to read, or - for standard input";
 
+/// What help says at its end.
+const AFTER_HELP: &str = "Examples:
+  echo 160000000268656c6c6f0006000000776f726c640000 | bsonwire dump --hex -
+      Writes the text of a document
+  bsonwire check --salvage dump.bson
+      Says which documents of a damaged file are good, and where its gaps are
+  bsonwire canon --salvage dump.bson > rest.bson
+      Writes what can be read of a damaged file
+  bsonwire json --relaxed dump.bson
+      Writes each document as JSON, one a line
+
+Exit status:
+  0  all is good
+  1  the input has a fault, or answers differ
+  2  the command line is wrong
+  3  reading, writing or the network failed
+  4  memory ran out";
+
 /// Makes a required operand, which help shows as `shown`.
 fn operand<'a>(alloc: Global, id: &'a str, shown: &'a str, help: &'a str) -> Arg<'a>
     ensures rule { rule_of result ≡ operand_rule id.entry.now }
@@ -328,6 +346,7 @@ fn top<'a>(alloc: Global) -> Command<'a>
 {
     Command::new(alloc, "bsonwire")
         .about("Reads BSON documents and MongoDB wire messages")
+        .after_help(AFTER_HELP)
         .version(VERSION)
         .subcommand_required(true)
 }

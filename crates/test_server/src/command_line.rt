@@ -8,6 +8,19 @@ use clap::{Arg, ArgAction, Command};
 use command_words::{VERSION, flag, number_option, text_option};
 use std::alloc::{AllocError, Global};
 
+/// What help says at its end.
+const AFTER_HELP: &str = "Examples:
+  test_server 127.0.0.1:27017
+      Serves drivers until it is stopped, and shows what they send
+  test_server --quiet --until-stdin-closes --port-file port 127.0.0.1:0
+      Serves a run of tests at a free port, and ends with standard input
+
+Exit status:
+  0  it served what it was asked for
+  2  the command line or the script is wrong
+  3  reading, writing or the network failed
+  4  memory ran out";
+
 /// Makes the operand ADDRESS.
 fn address_operand<'a>(alloc: Global) -> Arg<'a>
     ensures rule { rule_of result ≡ address_rule }
@@ -26,6 +39,7 @@ fn top<'a>(alloc: Global) -> Command<'a>
 {
     Command::new(alloc, "test_server")
         .about("Answers drivers from documents in memory, and shows what they sent")
+        .after_help(AFTER_HELP)
         .version(VERSION)
 }
 
