@@ -4,6 +4,7 @@ import hashlib
 import os
 import pathlib
 import re
+import shutil
 import subprocess
 
 from copied_crates import crates_below
@@ -35,6 +36,28 @@ def built_files():
     places["lughemra.h"] = ROOT / "crates/lughemra/include/lughemra.h"
     places[SHARED] = GATE / SHARED
     return dict(sorted(places.items()))
+
+
+def kept_gate():
+    """Returns the folder in which a gate that passed keeps what it built, for a release that is written elsewhere on this machine."""
+    return pathlib.Path(os.environ.get("XDG_CACHE_HOME") or pathlib.Path.home() / ".cache") / "lughemra/gate"
+
+
+def keep_built(folder):
+    """Copies the record of a gate that passed, and what it built, into a folder, in the place of what is there."""
+    shutil.rmtree(folder, ignore_errors=True)
+    folder.mkdir(parents=True)
+    for name, path in {**built_files(), STATIC.name: STATIC, RECORD.name: RECORD}.items():
+        shutil.copyfile(path, folder / name)
+
+
+def take_built(folder):
+    """Puts what a gate of these sources kept in a folder where that gate had built it."""
+    for name, path in {**built_files(), STATIC.name: STATIC, RECORD.name: RECORD}.items():
+        if name != "lughemra.h":
+            path.parent.mkdir(parents=True, exist_ok=True)
+            shutil.copyfile(folder / name, path)
+            path.chmod(0o755 if name in listed_programs() else 0o644)
 
 
 def compiled_crates():
