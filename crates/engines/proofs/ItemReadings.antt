@@ -150,7 +150,7 @@ module _ (k : ItemKind) (is_kind : IsKind k) where
       is_kind.open_not_item item after (subst k.is_open (sym same) o) p)
 
   -- the last line of bytes at fault
-  pub last_bad : (start : ℕ) (rest line : List ℕ) → k.is_bad start rest line → IsLastItem k start rest (Some line)
+  last_bad : (start : ℕ) (rest line : List ℕ) → k.is_bad start rest line → IsLastItem k start rest (Some line)
   last_bad start [] line bad = absurd (is_kind.open_not_bad start [] line is_kind.nothing_open bad)
   last_bad start (x ∷ xs) line bad = inr (line, bad, refl)
 

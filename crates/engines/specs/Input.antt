@@ -60,12 +60,13 @@ pub record IsDecoded (hex : HexText) (text : List ℕ) : Type 0 where
   pub high : hex.other ≡ None → hex.high ≡ half_of text
   pub half : IfSome hex.high (λ high. high < 16)
 
--- what a digit's value leaves alone, and the byte that it completes, behind one that was alone or
--- not
+-- the value of the digit that is alone, once a digit with this value came behind one that was
+-- alone, or behind none
 abbrev pub half_behind : Option ℕ → ℕ → Option ℕ
 half_behind None digit = Some digit
 half_behind (Some high) digit = None
 
+-- the byte that it completes then, if it does
 abbrev pub byte_behind : Option ℕ → ℕ → List ℕ
 byte_behind None digit = []
 byte_behind (Some high) digit = (high * 16 + digit) ∷ []

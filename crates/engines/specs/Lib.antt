@@ -39,7 +39,6 @@ pub use Rattle.engines.specs.Check.{CheckText, check_of}
 pub use Rattle.engines.specs.Documents.{AllTexts, AppendsFirst, FirstTexts, TextRule, WritesAll}
 pub use Rattle.engines.specs.Documents.{told_at, told_by}
 pub use Rattle.engines.specs.Dump.{DumpText, dump_of}
-pub use Rattle.engines.specs.Input.{bytes_of, hex_fault}
 pub use Rattle.engines.specs.Json.{JsonText, MayBeJson}
 pub use Rattle.engines.specs.Loopback.{AppendsUpTo, HaveRun, HaveTold, loop_text}
 pub use Rattle.engines.specs.Msg.{AllMessages, FirstMessages, MsgText}
