@@ -1,0 +1,146 @@
+"""Reads the libraries' public calls, and which of them may want memory.
+
+A call of a library (a public function, a method of a public type, or an export for C) may want memory if
+it takes an allocator, if its result can answer that memory ran out, or if it is a method of a type that keeps an
+allocator: one with a collection of its own in a field, at whatever depth.
+"""
+
+import pathlib
+import re
+
+ROOT = pathlib.Path(__file__).resolve().parents[2]
+LIBRARIES = sorted(path.parent.parent.name for path in ROOT.glob("crates/*/src/lib.rt"))
+
+OWNED = {"Vec", "VecDeque", "String", "Box", "IndexMap", "IndexSet", "Global"}
+WANTS = {"AllocError", "AllocFailed"}
+WANT_VARIANTS = {"OutOfMemory", "NoMemory"}
+
+# What a borrow holds is another's.
+BORROWED = re.compile(r"&\s*('\w+\s+)?(mut\s+)?(\[[^\]]*\]|\w+(<[^<>]*>)?)")
+
+
+def words_of(text):
+    return set(re.findall(r"\w+", text))
+
+
+def code_of(path):
+    """Returns the lines of a file without comments and without what stands in it for proofs."""
+    lines = path.read_text(encoding="utf-8").split("\n")
+    return ["" if re.match(r"\s*(//|ghost |#\[)", line) else line for line in lines]
+
+
+def blocks(lines):
+    """Returns each item at the left margin: its first line, and all of its lines."""
+    start = None
+    for number, line in enumerate(lines):
+        if start is None and re.match(r"\w", line):
+            start = number
+        if start is not None and (re.match(r"\}|\{\}$", line) or line.endswith(";") and line[:1] != " "):
+            yield lines[start], lines[start : number + 1]
+            start = None
+
+
+def functions(lines):
+    """Returns the name and the head of each function of an item, and whether it is public."""
+    for number, line in enumerate(lines):
+        found = re.match(r'\s*(pub |pub\(crate\) )?(?:extern "C" )?fn (\w+)', line)
+        if not found:
+            continue
+        head = [line]
+        for later in lines[number + 1 :]:
+            if head[-1].endswith("{") or re.match(r"\s*(\{|requires|ensures|where)\b", later) or later.strip() == "{":
+                break
+            head.append(later)
+        yield found[2], " ".join(head), found[1] == "pub "
+
+
+class Call:
+    """A public function of a library."""
+
+    def __init__(self, crate, path, owner, name, head):
+        self.name = "::".join(part for part in (crate, path, owner, name) if part)
+        self.owner = owner
+        self.function = name
+        self.head = head
+        self.arguments, _, self.result = head.partition(" -> ") if " -> " in head else (head, "", "")
+        self.is_method = re.search(r"\bself\b", self.arguments) is not None
+
+    def is_called_in(self, text):
+        """Returns true if some code calls it."""
+        if self.is_method:
+            return re.search(rf"\.{self.function}\(", text) is not None
+        if self.owner:
+            return re.search(rf"\b{self.owner}::{self.function}\(", text) is not None
+        return re.search(rf"(?<![.:\w]){self.function}(::<[^(]*>)?\(", text) is not None
+
+
+class Sources:
+    """What the sources of the libraries say."""
+
+    def __init__(self):
+        self.fields = {}
+        self.variants = {}
+        self.heads = []
+        for crate in LIBRARIES:
+            self.read_crate(crate)
+        self.keepers = self.closed(OWNED, self.fields)
+        wanting = {name for name, variants in self.variants.items() if variants & WANT_VARIANTS}
+        self.wanting = self.closed(WANTS | wanting, {name: self.fields[name] for name in self.variants})
+        self.calls = {call.name: call for call in self.heads if self.may_want(call)}
+
+    def read_crate(self, crate):
+        source = ROOT / "crates" / crate / "src"
+        lib = (source / "lib.rt").read_text(encoding="utf-8")
+        open_modules = set(re.findall(r"^pub mod (\w+);", lib, re.M))
+        public = words_of(" ".join(re.findall(r"^pub use \w+::(\{[^}]*\}|\w+);", lib, re.M)))
+        for path in sorted(source.rglob("*.rt")):
+            for first, lines in blocks(code_of(path)):
+                self.read_type(first, lines)
+                self.read_functions(crate, path.stem, open_modules, public, first, lines)
+
+    def read_type(self, first, lines):
+        found = re.match(r"(?:pub(?:\(crate\))? )?(struct|enum) (\w+)", first)
+        if found:
+            body = BORROWED.sub("", "\n".join(lines).partition(found[2])[2])
+            self.fields[found[2]] = body
+            if found[1] == "enum":
+                self.variants[found[2]] = set(re.findall(r"^    (\w+)", body, re.M))
+                self.fields[found[2]] = re.sub(r"^    \w+", "", body, flags=re.M)
+
+    def read_functions(self, crate, module, open_modules, public, first, lines):
+        path = module if module in open_modules else ""
+        found = re.match(r"impl(?:<.*?>)? (?:([\w:]+)(?:<.*>)? for )?(?:&'?\w* ?)?(\w+)", first)
+        if not found:
+            for name, head, is_public in functions(lines):
+                exported = 'extern "C"' in head
+                if re.match(r"pub ", first) and is_public and (path or exported or name in public):
+                    self.heads.append(Call(crate, path, "", name, head))
+        elif found[2] in public or path:
+            for name, head, is_public in functions(lines):
+                if is_public or found[1]:
+                    self.heads.append(Call(crate, path, found[2], name, head))
+
+    @staticmethod
+    def closed(first, bodies):
+        """Returns the names of `first`, and each whose body names one of these, at whatever depth."""
+        names = set(first)
+        while True:
+            more = {name for name, body in bodies.items() if name not in names and words_of(body) & names}
+            if not more:
+                return names
+            names |= more
+
+    def of_crate(self, crate):
+        """Returns the public calls of a crate."""
+        return [call for call in self.heads if call.name.split("::")[0] == crate]
+
+    def may_want(self, call):
+        """Returns true if the call may want memory, by its head and its type's fields."""
+        takes = words_of(call.head) & {"Global", "AllocGlobal"}
+        # A refusal that is made of another one tells that memory ran out, and takes none.
+        answers = words_of(call.result) & self.wanting and call.function != "from"
+        return bool(takes or answers or call.owner in self.keepers)
+
+    def can_answer_want(self, call):
+        """Returns true if the call may err as memory ran out."""
+        return call.result.strip().startswith("Result") and bool(words_of(call.result) & self.wanting)
