@@ -4,9 +4,10 @@ import re
 
 from items import PROOFS, ROOT, WORD, items_of
 
-__all__ = ["CRATES", "ROOT", "WORD", "cited", "contracts", "contracts_of", "imported", "is_read", "states"]
+__all__ = ["CRATES", "PROGRAMS", "ROOT", "WORD", "cited", "contracts", "contracts_of", "imported", "is_read", "states"]
 
 CRATES = {folder.parent.name for folder in ROOT.glob("crates/*/src")}
+PROGRAMS = {path.parent.parent.name for path in ROOT.glob("crates/*/src/main.rt")}
 
 
 def states(item):
@@ -17,8 +18,8 @@ def states(item):
 
 
 def is_read(item):
-    """Returns true for an item whose contract others read: what is public, and the functions of a program's first file that have clauses."""
-    return item.is_public or item.module == "main" and item.kind == "fn" and bool(item.named_clauses("ensures"))
+    """Returns true for an item whose contract others read: what is public, and of a program, which gives nothing to others, what has a clause."""
+    return item.is_public or item.crate in PROGRAMS and item.kind == "fn" and bool(item.named_clauses("ensures"))
 
 
 def contracts_of(path):

@@ -14,7 +14,7 @@ UP = "../.."  # from the pages to the repository
 # What the items are that no other crate can name, of a library and of a program.
 INNER = {
     False: ("Between its modules", "What is `pub` in a module that other crates can't name."),
-    True: ("Items", "What the modules of this program give each other, and the functions of `main` that have a clause."),
+    True: ("Items", "A program gives nothing to other crates. These are what its modules share, and its functions that have a clause."),
 }
 
 
@@ -24,6 +24,11 @@ def linked(path, text):
 
 def pages_of(names):
     return ", ".join(f"[{name}]({name}.md)" for name in names)
+
+
+def names_of(calls):
+    """Returns the names of calls, each once, without that of their crate."""
+    return ", ".join(dict.fromkeys(f"`{call.name.split('::', 1)[1]}`" for call in calls))
 
 
 def head_of_crate(crate):
@@ -126,9 +131,17 @@ class CratePage:
         calls = self.known.memory.of_crate(self.crate.name)
         if not calls:
             return []
-        names = [f"`{call.name.split('::', 1)[1]}`" for call in calls if call.name in self.known.memory.calls]
-        lead = f"Of its {len(calls)} public calls {len(names)} may want memory, by what they take, return and keep"
-        return ["## Memory", "", f"{lead}: {', '.join(names)}." if names else f"None of its {len(calls)} public calls may want memory.", ""]
+        memory = self.known.memory
+        says = [call for call in calls if memory.says_want(call)]
+        keeps = [call for call in calls if memory.may_want(call) and call not in says]
+        rest = len(calls) - len(says) - len(keeps)
+        lines = [f"- Public calls that take an allocator, or can return that memory ran out: {names_of(says)}."] if says else []
+        lines += [f"- Other public calls of types that keep an allocator: {names_of(keeps)}."] if keeps else []
+        if not lines:
+            lines = ["No public call takes an allocator, or is of a type that keeps one."]
+        elif rest:
+            lines.append(f"- Public calls that do neither: {rest}.")
+        return ["## Memory", "", *lines, ""]
 
     def wrong_bodies(self):
         rows = []

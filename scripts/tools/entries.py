@@ -2,15 +2,15 @@
 
 import re
 
-from contracts import PROOFS, is_read, states
+from contracts import PROGRAMS, PROOFS, is_read, states
 
 PRIVATE = "    // private fields"
 TYPES = ("struct", "enum", "trait")
 
 
 def is_shown(item):
-    """Returns true for what the sources declare public, what implements a trait, and what else has a contract that others read."""
-    return is_read(item) or item.kind == "impl" and bool(item.trait)
+    """Returns true for what the sources declare public, what implements a trait, and what of a program its modules share or has a clause."""
+    return is_read(item) or item.kind == "impl" and bool(item.trait) or item.is_shared and item.crate in PROGRAMS
 
 
 def fenced(lines):
@@ -18,8 +18,9 @@ def fenced(lines):
 
 
 def docs(item):
-    """Returns the lines of the comment of an item, of which a heading is a bold word before what it is of."""
-    return re.sub(r"^#+ (.*)\n\n", r"**\1.** ", "\n".join(item.doc), flags=re.M).split("\n") if item.doc else []
+    """Returns the lines of the comment of an item. A heading becomes a bold word before its paragraph, or above its list."""
+    text = re.sub(r"^#+ (.*)\n\n(?!- )", r"**\1.** ", "\n".join(item.doc), flags=re.M)
+    return re.sub(r"^#+ (.*)$", r"**\1.**", text, flags=re.M).split("\n") if text else []
 
 
 def commented(item, indent=""):

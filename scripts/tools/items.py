@@ -34,6 +34,8 @@ class Item:
         self.start, self.end = start, end
         # Public as the sources declare it; what a trait has, is as public as the trait, and so is what an impl of a trait has.
         self.owner, self.trait, self.is_public = "", "", False
+        # `pub(crate)` is public to the crate.
+        self.is_shared = False
 
     @property
     def text(self):
@@ -149,7 +151,7 @@ class Reader:
             item.lines = head
         else:
             item = Item(self.path, found["block"] or found["kind"], found["name"], self.lines, number, end_of(self.lines, number))
-        item.is_public = found[2] == "pub "
+        item.is_public, item.is_shared = found[2] == "pub ", bool(found[2])
         return item
 
     def outermost(self, number, found):

@@ -134,12 +134,16 @@ class Sources:
         """Returns the public calls of a crate."""
         return [call for call in self.heads if call.name.split("::")[0] == crate]
 
-    def may_want(self, call):
-        """Returns true if the call may want memory, by its head and its type's fields."""
+    def says_want(self, call):
+        """Returns true if the call takes an allocator, or can answer that memory ran out."""
         takes = words_of(call.head) & {"Global", "AllocGlobal"}
         # A refusal that is made of another one tells that memory ran out, and takes none.
         answers = words_of(call.result) & self.wanting and call.function != "from"
-        return bool(takes or answers or call.owner in self.keepers)
+        return bool(takes or answers)
+
+    def may_want(self, call):
+        """Returns true if the call may want memory, by its head and its type's fields."""
+        return self.says_want(call) or call.owner in self.keepers
 
     def can_answer_want(self, call):
         """Returns true if the call may err as memory ran out."""

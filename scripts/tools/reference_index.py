@@ -32,7 +32,7 @@ stand below it, with links to their definitions. The others are the kit's. These
 | `ℕ`, `ℤ`, `List ℕ` | whole numbers from 0; whole numbers; a list of them, such as bytes |
 | `IfOk result (λ v. A)`, `OnOk result A` | A holds of the value if the result is `Ok`; A holds then |
 | `IfErr`, `OnErr`, `IfSome`, `OnSome` | the same of the other outcomes |
-| `∥ A ∥₁` | A holds, and no value of it can be taken out |
+| `∥ A ∥₁` | A holds, whatever proves it |
 """
 
 KIT = """And these are all that clauses cite, by the files of the kit from which they come:

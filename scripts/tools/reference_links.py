@@ -5,26 +5,26 @@ import functools
 import os
 import re
 
-from contracts import contracts
+from contracts import contracts, is_read
 from items import ROOT
 
-FUNCTION = re.compile(r'^ *(?:pub )?(?:(?:const|unsafe|extern "C") )*fn (\w+)', re.M)
+FUNCTION = re.compile(r'^ *(?:pub(?:\(crate\))? )?(?:(?:const|unsafe|extern "C") )*fn (\w+)', re.M)
 PUBLIC = re.compile(r'^ *pub (?:(?:const|unsafe|extern "C") )*fn (\w+)', re.M)
 FENCE = re.compile(r"^```rust\n(.*?)^```$", re.M | re.S)
 LINK = re.compile(r"\]\(([^)#]*)(?:#([^)]*))?\)")
 
 
 def functions():
-    """Returns the names of the public functions of each crate, as often as the crate has one of the name."""
+    """Returns the names of the functions of each crate whose contracts others read, as often as the crate has one of the name."""
     found = collections.defaultdict(list)
     for contract in contracts():
-        if contract.kind == "fn" and contract.is_public:
+        if contract.kind == "fn" and is_read(contract):
             found[contract.crate].append(contract.name)
     return {crate: collections.Counter(names) for crate, names in found.items()}
 
 
 def declared_public():
-    """Returns the same by the first words of lines alone, of functions that are `pub` themselves."""
+    """Returns the same by the first words of lines alone, for functions that are `pub` themselves."""
     found = collections.defaultdict(collections.Counter)
     for path in sorted(ROOT.glob("crates/*/src/**/*.rt")):
         found[path.relative_to(ROOT / "crates").parts[0]].update(PUBLIC.findall(path.read_text(encoding="utf-8")))
@@ -32,16 +32,16 @@ def declared_public():
 
 
 def lost_functions(pages):
-    """Yields each public function that isn't on its crate's page, by either count."""
+    """Yields each such function that isn't on its crate's page, by either count."""
     for wanted in (functions(), declared_public()):
         for crate, names in wanted.items():
             shown = collections.Counter(FUNCTION.findall("\n".join(FENCE.findall(pages.get(f"{crate}.md", "")))))
             for name in names - shown:
-                yield f"docs/reference/{crate}.md has {shown[name]} functions {name}, and the crate {names[name]} that are public"
+                yield f"docs/reference/{crate}.md has {shown[name]} functions {name}, and should have {names[name]}"
 
 
 def lost_words(pages, definitions):
-    """Yields each word of a public contract that isn't on its crate's page, with the comment above it, or in the list of the kit's."""
+    """Yields each word of these contracts that isn't on its crate's page, with the comment above it, or in the list of the kit's."""
     for crate, words in definitions.cited.items():
         rows = re.findall(r"^\|[^|]*\|([^|]*)\| .+ \|$", pages.get(f"{crate}.md", ""), re.M)
         told = set(re.findall(r'<a id="([^"]*)"></a>', "\n".join(rows)))
@@ -69,4 +69,4 @@ def lost(pages, definitions):
     kit = sum(len(cited) for cited in definitions.of_kit.values())
     links = sum(len(set(LINK.findall(FENCE.sub("", text)))) for text in pages.values())
     missing = sorted({*lost_functions(pages), *lost_words(pages, definitions), *lost_links(pages)})
-    return f"{public} public functions, {words} words of public contracts and {kit} of the kit's, {links} links", missing
+    return f"{public} functions, {words} words of their contracts and {kit} of the kit's, {links} links", missing
