@@ -562,5 +562,10 @@ def cursor() -> Cursor:
     try:
         return spare.pop()
     except IndexError:
-        step = Step()
-        return step, ctypes.byref(step), ctypes.byref(step, OFFSET_OF_ELEMENT)
+        return new_cursor()
+
+
+def new_cursor() -> Cursor:
+    """Returns a cursor of its own."""
+    step = Step()
+    return step, ctypes.byref(step), ctypes.byref(step, OFFSET_OF_ELEMENT)

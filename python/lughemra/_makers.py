@@ -12,14 +12,18 @@ import pickle
 
 from .leaves import date_of as date_of
 from .leaves import object_id as object_id
-from .values import MAX_KEY, MIN_KEY, UNDEFINED, Code, DBPointer, Kind, MaxKey, MinKey, Undefined
-from .values import Binary as Binary
+from .values import MAX_KEY, MIN_KEY, UNDEFINED, Binary, Code, DBPointer, Kind, MaxKey, MinKey, Undefined
 from .values import Decimal128 as Decimal128
 from .values import Regex as Regex
 from .values import Symbol as Symbol
 from .values import Timestamp as Timestamp
 
 NUMBER = 0x4C554700
+
+
+def binary(subtype: int, data: bytes) -> Binary:
+    """Returns binary data of its subtype and its bytes."""
+    return Binary(data, subtype)
 
 
 def undefined() -> Undefined:
@@ -44,7 +48,7 @@ def db_pointer(namespace: str, data: bytes) -> DBPointer:
 
 # The name under which this module has what makes a value of each kind.
 MAKERS = {
-    Kind.BINARY: "Binary",
+    Kind.BINARY: "binary",
     Kind.UNDEFINED: "undefined",
     Kind.OBJECT_ID: "object_id",
     Kind.DATETIME: "date_of",

@@ -253,23 +253,25 @@ class Document(_Container, Mapping[str, Any]):
         except KeyError:
             return default
 
-    def kind(self, name: str) -> Kind:
-        """Returns the kind of the first value with this name, which tells an int32 from an int64, say."""
+    def _found(self, name: str) -> Optional[lib.Step]:
+        """Returns the first element with this name, or None where there is none."""
         try:
             encoded, length = _encoded(name)
         except (AttributeError, UnicodeEncodeError):
-            raise KeyError(name) from None
-        cursor = _cursor()
-        step, iter_argument, element_argument = cursor
+            return None
+        step, iter_argument, element_argument = lib.new_cursor()
         step.iter = self._begin
         _find(self._pointer, self._size, encoded, length, iter_argument, element_argument)
-        kind, number, offset = step.kind, step.number, step.offset
-        _spare.append(cursor)
-        if number:
-            raise DocumentError(number, offset)
-        if not kind:
+        if step.number:
+            raise DocumentError(step.number, step.offset)
+        return step if step.kind else None
+
+    def kind(self, name: str) -> Kind:
+        """Returns the kind of the first value with this name, which tells an int32 from an int64, say."""
+        step = self._found(name)
+        if step is None:
             raise KeyError(name)
-        return Kind(kind)
+        return Kind(step.kind)
 
     def __contains__(self, name: object) -> bool:
         try:
@@ -302,7 +304,9 @@ class Document(_Container, Mapping[str, Any]):
 
     def to_dict(self) -> dict[str, Any]:
         """Returns all of it as dict and list. Raises the first fault that `check` finds, if there is one."""
-        made = whole.dict_of(self)
+        made: Optional[dict[str, Any]] = whole.made_by_extension(self, False)
+        if made is None:
+            made = whole.dict_of(self)
         return whole.first_of(whole.walked(self)) if made is None else made
 
     def json(self, relaxed: bool = False) -> str:
@@ -412,6 +416,9 @@ class Array(_Container, Sequence[Any]):
 
     def to_list(self) -> list[Any]:
         """Returns all of it as list and dict. Raises the first fault that `check` finds, if there is one."""
+        listed: Optional[list[Any]] = whole.made_by_extension(self, True)
+        if listed is not None:
+            return listed
         made = whole.dict_of(self)
         return [value for _, value in whole.walked(self)] if made is None else list(made.values())
 

@@ -46,7 +46,7 @@ def content(data: Any, step: Step) -> bytes:
 def binary(data: Any, step: Step) -> Union[bytes, Binary]:
     """Returns binary data."""
     held = content(data, step)
-    return Binary(step.subtype, held) if step.subtype else held
+    return Binary(held, step.subtype) if step.subtype else held
 
 
 def object_id(data: bytes) -> ObjectId:

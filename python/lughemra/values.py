@@ -87,10 +87,10 @@ class DatetimeMS:
 
 @dataclass(frozen=True, slots=True)
 class Binary:
-    """Holds a binary of a subtype that isn't 0; of subtype 2 without the inner count."""
+    """Holds a binary of a subtype that isn't 0; of subtype 2 without the inner count. The arguments stand as in PyMongo's."""
 
-    subtype: int
     data: bytes
+    subtype: int = 0
 
 
 @dataclass(frozen=True, slots=True)

@@ -1,5 +1,6 @@
 """Makes dict and list of all that is in a document or in an array.
 
+The extension does that, where there is one. Else it is done over `ctypes`.
 Each element that is walked over costs a call, and a call over `ctypes` costs more than to read an element. So the library writes a
 document as a pickle, and Python makes the values of it. Whatever the bytes of the document are, the pickle has no opcodes but those
 of values and the numbers of the functions of `_makers`. Of elements with one name a dict keeps the last, and here the first one
@@ -8,14 +9,17 @@ counts: so the pickle also has a list of all dicts inside and the number of all 
 
 from __future__ import annotations
 
+import datetime
 import pickle
 from typing import TYPE_CHECKING, Any, Optional, Union
 
 from . import _library as lib
+from . import _makers
+from ._fast import SPEED
 from ._makers import REGISTERED
 from .errors import TEXT_FAULT, DocumentError
 from .leaves import READERS, text
-from .values import Code, Kind
+from .values import Code, Kind, ObjectId
 
 if TYPE_CHECKING:
     from .document import Array, Document
@@ -23,6 +27,30 @@ if TYPE_CHECKING:
 _next, _enter = lib.short.next, lib.short.enter
 
 Pairs = list[tuple[str, Any]]
+
+
+def reader() -> Any:
+    """Returns what the extension makes documents by, or None where there is no extension."""
+    if SPEED is None:
+        return None
+    makers = {int(kind): getattr(_makers, name) for kind, name in _makers.MAKERS.items()}
+    return SPEED.Reader(makers, None, (ObjectId, vars(ObjectId)["data"]), None, datetime.timezone.utc, None, True)
+
+
+READER = reader()
+
+
+def made_by_extension(container: Union[Document, Array], is_array: bool) -> Any:
+    """Returns the document as a dict or the array as a list; or None where there is no extension, or no fault is found in bytes that
+    had one, since they were changed meanwhile. Raises the first fault that a check finds."""
+    if READER is None:
+        return None
+    inner = container._inner
+    data = container._data if inner is None else container._data[inner.start : inner.end + 1]
+    made = READER.array(data) if is_array else READER.document(data)
+    if made is None:
+        container.check()
+    return made
 
 
 def dict_of(container: Union[Document, Array]) -> Optional[dict[str, Any]]:

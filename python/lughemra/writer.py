@@ -11,6 +11,7 @@ from collections.abc import Iterable, Iterator, Mapping, Sequence
 from typing import Any, Callable, Optional, Union
 
 from . import _library as lib
+from ._fast import SPEED
 from ._numbers import require, shown
 from .checks import check
 from .document import Array, Document
@@ -176,11 +177,27 @@ def _given(value: Any) -> Given:
     raise TypeError(f"{kind.__name__} stands for no value of BSON")
 
 
-class _Room:
-    """Holds the room that a document is built in."""
+def _told(value: Any) -> Any:
+    """Returns of a value its kind and what it holds: the pairs of a document or the items of an array, or else what is appended of it."""
+    container = None if type(value) in GIVEN else _container_of(value)
+    if container is None:
+        kind, subtype, bits, text, data = _given(value)
+        # A call would take a text, too, and read its letters as they stand in memory.
+        return kind, subtype, bits, text, data if type(data) is bytes else bytes(memoryview(data))
+    pairs = _pairs_of(value)
+    return container, pairs if container == Kind.DOCUMENT else (it for _, it in pairs)
 
-    def __init__(self) -> None:
+
+# What the extension writes documents by, or None where there is no extension.
+WRITER = None if SPEED is None else SPEED.Writer(_told, (ObjectId, vars(ObjectId)["data"]), Int64, False, None)
+
+
+class Room:
+    """Holds the room that a document is built in. `told` says what stands for a value."""
+
+    def __init__(self, told: Callable[[Any], Any] = _told) -> None:
         self.held = bytearray(512)
+        self.told = told
 
     def build(self, function: Callable[..., Any], *arguments: Any) -> int:
         """Calls a function of the builder, again in a longer room if it tells so. Returns how many bytes it wants."""
@@ -198,27 +215,28 @@ class _Room:
 
     def append(self, builder: lib.Builder, name: bytes, value: Any) -> None:
         """Appends a pair, at all depths."""
-        container = None if type(value) in GIVEN else _container_of(value)
-        if container is not None:
-            inner = lib.Builder()
-            outer_argument, inner_argument = ctypes.byref(builder), ctypes.byref(inner)
-            kind = lib.limit_of(container)
-            self.build(lib.short.begin, outer_argument, name, lib.size(len(name)), kind, inner_argument)
-            self.append_all(inner, _pairs_of(value))
-            self.build(lib.short.end, outer_argument, inner_argument)
+        told = self.told(value)
+        if len(told) > 2:
+            self.append_leaf(builder, name, told)
             return
-        kind_byte, subtype, bits, text, data = _given(value)
-        # A call would take a text, too, and read its letters as they stand in memory.
-        content = data if type(data) is bytes else bytes(memoryview(data))
-        numbers = ctypes.byref(lib.Numbers(kind_byte, subtype, bits))
-        sizes = [lib.size(len(it)) for it in (name, text, content)]
-        self.build(
-            lib.short.append, ctypes.byref(builder), name, sizes[0], numbers, text, sizes[1], content, sizes[2]
-        )
+        kind, held = told
+        inner = lib.Builder()
+        outer_argument, inner_argument = ctypes.byref(builder), ctypes.byref(inner)
+        self.build(lib.short.begin, outer_argument, name, lib.size(len(name)), lib.limit_of(kind), inner_argument)
+        self.append_all(inner, held)
+        self.build(lib.short.end, outer_argument, inner_argument)
 
-    def append_all(self, builder: lib.Builder, pairs: Iterable[tuple[Any, Any]]) -> None:
-        """Appends the pairs in their order. Raises TypeError for a name that is no text. What it raises of a value tells where."""
-        for name, value in pairs:
+    def append_leaf(self, builder: lib.Builder, name: bytes, given: Given) -> None:
+        """Appends a pair whose value holds no others."""
+        kind, subtype, bits, text, data = given
+        numbers = ctypes.byref(lib.Numbers(kind, subtype, bits))
+        sizes = [lib.size(len(it)) for it in (name, text, data)]
+        self.build(lib.short.append, ctypes.byref(builder), name, sizes[0], numbers, text, sizes[1], data, sizes[2])
+
+    def append_all(self, builder: lib.Builder, held: Iterable[Any]) -> None:
+        """Appends pairs, or the items of an array, in their order. Raises TypeError for a name that is no text. What it raises of a
+        value tells where."""
+        for name, value in held if builder.kind == Kind.DOCUMENT else (("", it) for it in held):
             if not isinstance(name, str):
                 raise TypeError(f"{type(name).__name__} as a name is no str")
             try:
@@ -245,7 +263,14 @@ def encode(pairs: Mapping[str, Any]) -> bytes:
         return pairs.raw
     if not isinstance(pairs, Mapping):
         raise TypeError(f"{type(pairs).__name__} is no mapping")
-    room = _Room()
+    if WRITER is not None:
+        try:
+            written: bytes = WRITER.document(pairs if type(pairs) is dict else pairs.items())
+            return written
+        except Exception:
+            # What is wrong is raised below, with notes that tell where that is.
+            pass
+    room = Room()
     builder = lib.short.build()
     room.append_all(builder, pairs.items())
     length = room.build(lib.short.finish, ctypes.byref(builder))
@@ -273,7 +298,7 @@ def documents_bytes(given: Iterable[AnyDocument]) -> Iterator[bytes]:
 
 def sequence_bytes(given: Sequences) -> bytes:
     """Returns the sections of document sequences, one behind the other."""
-    room, end = _Room(), ctypes.c_size_t(0)
+    room, end = Room(), ctypes.c_size_t(0)
     for identifier, documents in given:
         name = _text("identifier of a sequence", identifier)
         try:

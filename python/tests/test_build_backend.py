@@ -3,6 +3,7 @@
 import importlib.util
 import pathlib
 import shutil
+import sysconfig
 import tarfile
 import zipfile
 
@@ -13,18 +14,21 @@ import lughemra
 
 BASE = f"lughemra-{lughemra.__version__}"
 SHARED = "liblughemra.so.0"
-NAMES = {path.name for path in (ROOT / "python/lughemra").glob("*.py")} | {"py.typed"}
+PACKAGE = ROOT / "python/lughemra"
+NAMES = {str(path.relative_to(PACKAGE)) for path in PACKAGE.rglob("*.py")} | {"py.typed"}
 WHEEL = {f"lughemra/{name}" for name in NAMES}
 WHEEL |= {f"{BASE}.dist-info/{name}" for name in ("METADATA", "WHEEL", "RECORD")}
 SOURCES = {f"{BASE}/{name}" for name in ("pyproject.toml", "build_backend.py", "PKG-INFO")}
 SOURCES |= {f"{BASE}/lughemra/{name}" for name in NAMES}
+SOURCES |= {f"{BASE}/lughemra/{path.name}" for path in PACKAGE.glob("_speed*.[ch]")} | {f"{BASE}/lughemra.h"}
 
 
 @pytest.fixture
 def backend(tmp_path):
-    """Returns the backend of a copy that has no shared object."""
+    """Returns the backend of a copy that has no shared object, and lughemra.h as the archive of the sources has it."""
     copied = tmp_path / "python"
-    shutil.copytree(ROOT / "python", copied, ignore=shutil.ignore_patterns("tests", SHARED))
+    shutil.copytree(ROOT / "python", copied, ignore=shutil.ignore_patterns("tests", SHARED, "_speed.*.so"))
+    shutil.copy(ROOT / "crates/lughemra/include/lughemra.h", copied)
     spec = importlib.util.spec_from_file_location("build_backend", copied / "build_backend.py")
     backend = importlib.util.module_from_spec(spec)
     spec.loader.exec_module(backend)
@@ -48,11 +52,27 @@ def in_sdist(backend, folder):
         return name, set(archive.getnames())
 
 
-def test_a_wheel_without_a_shared_object_is_for_each_machine(backend, tmp_path):
+@pytest.fixture
+def without_compiler(monkeypatch):
+    """Has no extension be built."""
+    monkeypatch.setenv("CC", "there-is-no-compiler-of-this-name")
+
+
+def test_the_extension_of_this_python_goes_into_the_wheel(backend, tmp_path):
+    name, names, _ = in_wheel(backend, tmp_path)
+    if not (pathlib.Path(sysconfig.get_paths()["include"]) / "Python.h").exists():
+        pytest.skip("Python.h is not here")
+    assert (name, names - WHEEL) == (f"{BASE}-py3-none-linux_x86_64.whl", {f"lughemra/_speed{sysconfig.get_config_var('EXT_SUFFIX')}"})
+
+
+@pytest.mark.usefixtures("without_compiler")
+def test_a_wheel_without_a_shared_object_is_for_each_machine(backend, tmp_path, capfd):
     assert in_wheel(backend, tmp_path) == (f"{BASE}-py3-none-any.whl", WHEEL, None)
     assert in_sdist(backend, tmp_path) == (f"{BASE}.tar.gz", SOURCES)
+    assert "the extension isn't built" in capfd.readouterr().err
 
 
+@pytest.mark.usefixtures("without_compiler")
 @pytest.mark.parametrize("link", [False, True])
 def test_a_shared_object_goes_into_the_wheel_and_not_into_the_sources(backend, tmp_path, link):
     place = backend.PACKAGE / SHARED

@@ -345,7 +345,7 @@ def test_small_types_are_values():
     assert lughemra.MinKey() == lughemra.MinKey() != lughemra.MaxKey()
     with pytest.raises(AttributeError):
         lughemra.Regex("a").pattern = "b"
-    assert copy.copy(lughemra.Binary(4, b"x")) == lughemra.Binary(4, b"x")
+    assert copy.copy(lughemra.Binary(b"x", 4)) == lughemra.Binary(b"x", 4)
 
 
 @pytest.mark.parametrize("again", [copy.copy, copy.deepcopy, lambda it: pickle.loads(pickle.dumps(it))])

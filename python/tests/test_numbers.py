@@ -14,7 +14,7 @@ LONG_ONES = [
     (OverflowError, lambda: encode({"n": lughemra.DatetimeMS(LONG)})),
     (OverflowError, lambda: encode({"n": lughemra.Timestamp(LONG, 0)})),
     (OverflowError, lambda: encode({"n": lughemra.Timestamp(0, -LONG)})),
-    (lughemra.EncodeError, lambda: encode({"b": lughemra.Binary(LONG, b"")})),
+    (lughemra.EncodeError, lambda: encode({"b": lughemra.Binary(b"", LONG)})),
     (TypeError, lambda: encode({"r": lughemra.Regex(LONG)})),
     (TypeError, lambda: encode({"r": lughemra.Regex("a", LONG)})),
     (TypeError, lambda: encode({"p": lughemra.DBPointer("ns", LONG)})),

@@ -22,6 +22,8 @@ TAKEN = [
     "given: AnyDocument = memoryview(b'')",
     "held: Buffer = array.array('b')",
     "sent: Sequences = [('docs', [given, held, {}])]",
+    "bson.encode({'a': [bson.ObjectId(), bson.Binary(b'', 4), bson.Int64(5)]})",
+    "bson.decode(bytearray(b''), bson.CodecOptions(tz_aware=True))",
 ]
 REFUSED = [
     "Document('text')",
@@ -41,12 +43,16 @@ REFUSED = [
     "Server().answer(0, ['text'])",
     "encode_message('text')",
     "encode(b'')",
+    "bson.decode('text')",
+    "bson.encode([])",
+    "bson.ObjectId(5)",
+    "bson.Binary(b'', 'x')",
 ]
 
 
 def test_what_lends_no_bytes_is_refused(tmp_path, monkeypatch):
     program = tmp_path / "program.py"
-    lines = ["import array", "import mmap", "from lughemra import *", *TAKEN, *REFUSED]
+    lines = ["import array", "import mmap", "from lughemra import *", "from lughemra import bson", *TAKEN, *REFUSED]
     program.write_text("\n".join(lines), encoding="utf-8")
     monkeypatch.setenv("MYPYPATH", str(ROOT / "python"))
     monkeypatch.chdir(tmp_path)

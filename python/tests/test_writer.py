@@ -153,8 +153,8 @@ REFUSED = [
     ({"a\0b": 1}, "BadName"),
     ({"a": {"\0": 1}}, "BadName"),
     ({"r": lughemra.Regex("a\0b")}, "BadValue"),
-    ({"b": lughemra.Binary(256, b"")}, "BadValue"),
-    ({"b": lughemra.Binary(2**32, b"")}, "BadValue"),
+    ({"b": lughemra.Binary(b"", 256)}, "BadValue"),
+    ({"b": lughemra.Binary(b"", 2**32)}, "BadValue"),
     ({"c": lughemra.Code("f", {})}, "BadValue"),
     (deep(201), "TooDeep"),
 ]
@@ -216,9 +216,9 @@ NO_VALUES = [
     object(),
     int,
     collections.UserString("text"),
-    lughemra.Binary(5, "text"),
-    lughemra.Binary("5", b""),
-    lughemra.Binary(5.0, b""),
+    lughemra.Binary("text", 5),
+    lughemra.Binary(b"", "5"),
+    lughemra.Binary(b"", 5.0),
     lughemra.Regex("a", re.IGNORECASE),
     lughemra.Regex(b"a"),
     lughemra.Code(b"f"),
@@ -256,7 +256,7 @@ def test_an_identifier_is_a_text(identifier):
 
 
 def test_data_may_be_any_bytes():
-    assert encode({"b": lughemra.Binary(5, bytearray(b"ab"))}) == encode({"b": lughemra.Binary(5, b"ab")})
+    assert encode({"b": lughemra.Binary(bytearray(b"ab"), 5)}) == encode({"b": lughemra.Binary(b"ab", 5)})
 
 
 def test_what_nests_200_deep_is_written():

@@ -1,0 +1,3 @@
+"""Code, where PyMongo has it."""
+
+from ._types import Code as Code

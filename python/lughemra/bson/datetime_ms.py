@@ -1,0 +1,3 @@
+"""DatetimeMS, where PyMongo has it."""
+
+from ._types import DatetimeMS as DatetimeMS

@@ -1,0 +1,3 @@
+"""DBRef, where PyMongo has it."""
+
+from ._types import DBRef as DBRef

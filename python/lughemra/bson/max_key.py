@@ -1,0 +1,3 @@
+"""MaxKey, where PyMongo has it."""
+
+from ._types import MaxKey as MaxKey

@@ -1,0 +1,3 @@
+"""MinKey, where PyMongo has it."""
+
+from ._types import MinKey as MinKey

@@ -1,0 +1,3 @@
+"""ObjectId, where PyMongo has it."""
+
+from ._types import ObjectId as ObjectId

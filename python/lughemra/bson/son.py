@@ -1,0 +1,3 @@
+"""SON, where PyMongo has it."""
+
+from ._types import SON as SON

@@ -1,0 +1,3 @@
+"""Timestamp, where PyMongo has it."""
+
+from ._types import Timestamp as Timestamp
