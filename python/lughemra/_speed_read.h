@@ -1,12 +1,16 @@
 /* Makes objects of Python from the elements that the library reads. The bytes are checked by the library first, as a whole: here no byte
  * is looked at but to copy it, and to look a name up among those that came before. */
-#include "_speed.h"
+#include "_speed_text.h"
 
 /* How many elements the library reads in one call. Each container that is open has a room of so many on the stack. */
 #define ELEMENTS 16
 /* How many names are kept, so that a name that comes again is neither made nor hashed again; and the longest of them. */
 #define NAMES 2048
 #define LONGEST 48
+/* How many names of one document may be missed, beyond those that are found, before no more are looked for in it. */
+#define MISSES 64
+/* The most elements for which a dict has room from the beginning. */
+#define MOST 4096
 
 static PyObject *names[NAMES];
 
@@ -32,9 +36,13 @@ struct reading {
     Reader *by;
     const uint8_t *bytes;
     size_t length;
+    /* Whether no one can change the bytes. */
+    int fixed;
+    /* How many more names were missed than found. */
+    int missed;
 };
 
-static PyObject *read_container(const struct reading *it, struct lughemra_iter *iter, int is_array, int is_inner);
+static PyObject *read_container(struct reading *it, struct lughemra_iter *iter, int is_array, int is_inner);
 
 /* Returns the place of a name among those that are kept. */
 static inline size_t place_of(const uint8_t *name, size_t length)
@@ -48,14 +56,17 @@ static inline size_t place_of(const uint8_t *name, size_t length)
 }
 
 /* Returns the text of a name: the same object as before, where it is kept. */
-static PyObject *name_of(const uint8_t *name, size_t length)
+static PyObject *name_of(struct reading *it, const uint8_t *name, size_t length)
 {
     PyObject **kept, *made;
-    if (length == 0 || length > LONGEST)
+    if (length == 0 || length > LONGEST || it->missed > MISSES)
         return PyUnicode_DecodeUTF8((const char *)name, (Py_ssize_t)length, NULL);
     kept = &names[place_of(name, length)];
-    if (*kept != NULL && (size_t)PyUnicode_GET_LENGTH(*kept) == length && memcmp(PyUnicode_DATA(*kept), name, length) == 0)
+    if (*kept != NULL && (size_t)PyUnicode_GET_LENGTH(*kept) == length && memcmp(PyUnicode_DATA(*kept), name, length) == 0) {
+        it->missed--;
         return Py_NewRef(*kept);
+    }
+    it->missed++;
     made = PyUnicode_DecodeUTF8((const char *)name, (Py_ssize_t)length, NULL);
     if (made != NULL && PyUnicode_IS_COMPACT_ASCII(made) && PyObject_Hash(made) != -1)
         Py_XSETREF(*kept, Py_NewRef(made));
@@ -64,6 +75,8 @@ static PyObject *name_of(const uint8_t *name, size_t length)
 
 static PyObject *text_of(const struct reading *it, struct lughemra_view view)
 {
+    if (it->fixed)
+        return checked_text(it->bytes + view.offset, view.length);
     return PyUnicode_DecodeUTF8((const char *)it->bytes + view.offset, (Py_ssize_t)view.length, NULL);
 }
 
@@ -125,18 +138,43 @@ static PyObject *date_of(const Reader *by, int64_t milliseconds)
                                                    (int)(rest % 1000) * 1000, by->zone, PyDateTimeAPI->DateTimeType);
 }
 
-static PyObject *int64_of(const Reader *by, int64_t number)
+#if PY_VERSION_HEX < 0x030C0000
+/* Makes a number of a type that comes from int, as int's own `__new__` does, by the digits that CPython 3.11 has. */
+static PyObject *int64_of_type(PyTypeObject *type, int64_t number)
+{
+    uint64_t rest = number < 0 ? 0 - (uint64_t)number : (uint64_t)number;
+    Py_ssize_t digits = 0;
+    PyLongObject *made;
+    for (uint64_t left = rest; left != 0; left >>= PyLong_SHIFT)
+        digits++;
+    made = (PyLongObject *)type->tp_alloc(type, digits == 0 ? 1 : digits);
+    if (made == NULL)
+        return NULL;
+    for (Py_ssize_t k = 0; k < digits; k++, rest >>= PyLong_SHIFT)
+        made->ob_digit[k] = (digit)(rest & PyLong_MASK);
+    Py_SET_SIZE(made, number < 0 ? -digits : digits);
+    return (PyObject *)made;
+}
+#else
+/* Makes a number of a type that comes from int, by int's own `__new__`. */
+static PyObject *int64_of_type(PyTypeObject *type, int64_t number)
 {
     PyObject *plain = PyLong_FromLongLong(number), *arguments, *made;
-    if (plain == NULL || by->int64 == NULL)
-        return plain;
+    if (plain == NULL)
+        return NULL;
     arguments = PyTuple_Pack(1, plain);
     Py_DECREF(plain);
     if (arguments == NULL)
         return NULL;
-    made = PyLong_Type.tp_new(by->int64, arguments, NULL);
+    made = PyLong_Type.tp_new(type, arguments, NULL);
     Py_DECREF(arguments);
     return made;
+}
+#endif
+
+static PyObject *int64_of(const Reader *by, int64_t number)
+{
+    return by->int64 == NULL ? PyLong_FromLongLong(number) : int64_of_type(by->int64, number);
 }
 
 static PyObject *binary_of(const struct reading *it, const struct lughemra_element *element)
@@ -148,7 +186,7 @@ static PyObject *binary_of(const struct reading *it, const struct lughemra_eleme
 }
 
 /* Makes a value of one of the kinds that are seldom seen. */
-static PyObject *rare_value(const struct reading *it, const struct lughemra_iter *iter, const struct lughemra_element *element)
+static PyObject *rare_value(struct reading *it, const struct lughemra_iter *iter, const struct lughemra_element *element)
 {
     const Reader *by = it->by;
     struct lughemra_iter inner;
@@ -175,7 +213,7 @@ static PyObject *rare_value(const struct reading *it, const struct lughemra_iter
     }
 }
 
-static PyObject *value_of(const struct reading *it, const struct lughemra_iter *iter, const struct lughemra_element *element)
+static PyObject *value_of(struct reading *it, const struct lughemra_iter *iter, const struct lughemra_element *element)
 {
     struct lughemra_iter inner;
     switch (element->kind) {
@@ -216,13 +254,13 @@ static int has_changed(const struct lughemra_element *last)
 }
 
 /* Puts the elements of a batch into a document. Returns -1 where it can't, and else whether one of the names begins with $. */
-static int put_pairs(const struct reading *it, PyObject *made, int is_dict, const struct lughemra_iter *iter,
+static int put_pairs(struct reading *it, PyObject *made, int is_dict, const struct lughemra_iter *iter,
                      const struct lughemra_element *elements, size_t count)
 {
     int dollar = 0, failed = 0;
     for (size_t k = 0; k < count && !failed; k++) {
         const uint8_t *at = it->bytes + elements[k].name.offset;
-        PyObject *name = name_of(at, elements[k].name.length);
+        PyObject *name = name_of(it, at, elements[k].name.length);
         PyObject *value = name == NULL ? NULL : value_of(it, iter, elements + k);
         dollar |= elements[k].name.length != 0 && *at == '$';
         if (value == NULL)
@@ -239,7 +277,23 @@ static int put_pairs(const struct reading *it, PyObject *made, int is_dict, cons
     return failed ? -1 : dollar;
 }
 
-static PyObject *read_document(const struct reading *it, struct lughemra_iter *iter, int is_inner)
+/* Returns a new dict, with room for as many elements as there seem to be by the first of them, up to MOST. */
+static PyObject *new_dict(const struct lughemra_iter *iter, size_t count)
+{
+#if PY_VERSION_HEX < 0x030D0000
+    size_t taken = iter->at - iter->start;
+    if (count == ELEMENTS && iter->at > iter->start && iter->end >= iter->at) {
+        size_t more = (iter->end - iter->at) / (taken / ELEMENTS + 1);
+        return _PyDict_NewPresized((Py_ssize_t)(more < MOST ? ELEMENTS + more : MOST));
+    }
+#else
+    (void)iter;
+    (void)count;
+#endif
+    return PyDict_New();
+}
+
+static PyObject *read_document(struct reading *it, struct lughemra_iter *iter, int is_inner)
 {
     struct lughemra_element elements[ELEMENTS];
     PyObject *document = it->by->document, *made = NULL;
@@ -249,7 +303,7 @@ static PyObject *read_document(const struct reading *it, struct lughemra_iter *i
         int told;
         count = library.next_elements(it->bytes, it->length, iter, elements, ELEMENTS);
         if (made == NULL)
-            made = document != NULL ? PyObject_CallNoArgs(document) : PyDict_New();
+            made = document != NULL ? PyObject_CallNoArgs(document) : new_dict(iter, count);
         if (made == NULL)
             return NULL;
         told = put_pairs(it, made, document == NULL, iter, elements, count);
@@ -264,7 +318,7 @@ static PyObject *read_document(const struct reading *it, struct lughemra_iter *i
     return made;
 }
 
-static PyObject *read_array(const struct reading *it, struct lughemra_iter *iter)
+static PyObject *read_array(struct reading *it, struct lughemra_iter *iter)
 {
     struct lughemra_element elements[ELEMENTS];
     PyObject *made = PyList_New(0);
@@ -291,15 +345,15 @@ static PyObject *read_array(const struct reading *it, struct lughemra_iter *iter
 }
 
 /* Makes a dict or a list of a document or an array over which this iterator walks. At most 200 of them are open at once, by the check. */
-static PyObject *read_container(const struct reading *it, struct lughemra_iter *iter, int is_array, int is_inner)
+static PyObject *read_container(struct reading *it, struct lughemra_iter *iter, int is_array, int is_inner)
 {
     return is_array ? read_array(it, iter) : read_document(it, iter, is_inner);
 }
 
-/* Makes the document that these bytes are. Returns None where they have a fault. */
-static PyObject *read_whole(Reader *self, const uint8_t *bytes, size_t length)
+/* Makes the document that these bytes are, which are fixed or may be changed by others. Returns None where they have a fault. */
+static PyObject *read_whole(Reader *self, const uint8_t *bytes, size_t length, int fixed)
 {
-    struct reading it = {self, bytes, length};
+    struct reading it = {self, bytes, length, fixed, 0};
     struct lughemra_first first;
     if (library.check_document(bytes, length).number != 0)
         Py_RETURN_NONE;
@@ -312,10 +366,10 @@ static PyObject *Reader_document(Reader *self, PyObject *data)
     Py_buffer view;
     PyObject *made;
     if (PyBytes_CheckExact(data))
-        return read_whole(self, (const uint8_t *)PyBytes_AS_STRING(data), (size_t)PyBytes_GET_SIZE(data));
+        return read_whole(self, (const uint8_t *)PyBytes_AS_STRING(data), (size_t)PyBytes_GET_SIZE(data), 1);
     if (PyObject_GetBuffer(data, &view, PyBUF_SIMPLE) < 0)
         return NULL;
-    made = read_whole(self, view.len ? view.buf : (const uint8_t *)"", (size_t)view.len);
+    made = read_whole(self, view.len ? view.buf : (const uint8_t *)"", (size_t)view.len, 0);
     PyBuffer_Release(&view);
     return made;
 }
@@ -330,7 +384,7 @@ static PyObject *Reader_array(Reader *self, PyObject *data)
     if (view.len == 0 || library.check_document(view.buf, (size_t)view.len).number != 0) {
         made = Py_NewRef(Py_None);
     } else {
-        struct reading it = {self, view.buf, (size_t)view.len};
+        struct reading it = {self, view.buf, (size_t)view.len, PyBytes_CheckExact(data), 0};
         struct lughemra_first first = library.first(it.bytes, it.length);
         made = read_array(&it, &first.iter);
     }
@@ -339,7 +393,7 @@ static PyObject *Reader_array(Reader *self, PyObject *data)
 }
 
 /* Makes the documents that stand one after another. Returns None where there is a fault. */
-static PyObject *read_all(Reader *self, const uint8_t *bytes, size_t length)
+static PyObject *read_all(Reader *self, const uint8_t *bytes, size_t length, int fixed)
 {
     struct lughemra_view left = {0, length}, found;
     PyObject *made = PyList_New(0);
@@ -347,7 +401,7 @@ static PyObject *read_all(Reader *self, const uint8_t *bytes, size_t length)
         PyObject *one = NULL;
         library.next_document(bytes, length, &left, &found);
         if (found.length != 0)
-            one = read_whole(self, bytes + found.offset, found.length);
+            one = read_whole(self, bytes + found.offset, found.length, fixed);
         if (one == NULL && PyErr_Occurred())
             Py_CLEAR(made);
         else if (one == NULL || one == Py_None)
@@ -367,7 +421,7 @@ static PyObject *Reader_all(Reader *self, PyObject *data)
     PyObject *made;
     if (PyObject_GetBuffer(data, &view, PyBUF_SIMPLE) < 0)
         return NULL;
-    made = read_all(self, view.len ? view.buf : (const uint8_t *)"", (size_t)view.len);
+    made = read_all(self, view.len ? view.buf : (const uint8_t *)"", (size_t)view.len, PyBytes_CheckExact(data));
     PyBuffer_Release(&view);
     return made;
 }

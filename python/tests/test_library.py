@@ -13,7 +13,7 @@ import pytest
 from rows import ROOT, document, element
 
 import lughemra
-from lughemra import _library, errors
+from lughemra import _library, errors, whole
 
 INCLUDE = ROOT / "crates" / "lughemra" / "include"
 HEADER = (INCLUDE / "lughemra.h").read_text(encoding="utf-8")
@@ -162,6 +162,7 @@ def test_a_text_without_memory_is_a_memory_error(monkeypatch):
     refused = _library.Text(_library.FaultStruct(_library.NO_MEMORY, 0), 0, False)
     monkeypatch.setattr(_library.long, "json", lambda *arguments: refused)
     monkeypatch.setattr(_library.long, "pickle", lambda *arguments: refused)
+    monkeypatch.setattr(whole, "READER", None)
     read = lughemra.Document(document())
     for call in (read.json, read.to_dict):
         with pytest.raises(MemoryError):

@@ -2,6 +2,7 @@
 
 from __future__ import annotations
 
+import functools
 from collections.abc import ItemsView, Iterator, Mapping
 from typing import Any, Optional
 
@@ -110,6 +111,7 @@ def items_of(document_class: Any, array: Any, options: CodecOptions) -> list[Any
     return items
 
 
+@functools.lru_cache(64)
 def plain_reading(options: CodecOptions) -> Reading:
     """Returns what reads the values of leaves."""
     return reading_by(options.with_options(document_class=dict))
