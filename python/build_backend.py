@@ -13,6 +13,7 @@ import pathlib
 import os
 import re
 import shlex
+import stat
 import subprocess
 import sys
 import sysconfig
@@ -25,10 +26,14 @@ HERE = pathlib.Path(__file__).resolve().parent
 PACKAGE = HERE / "lughemra"
 # The shared object, where someone has put it beside the module.
 SHARED = PACKAGE / "liblughemra.so.0"
+# The module of pytest's fixtures, which stands beside the package.
+FIXTURES = HERE / "lughemra_pytest.py"
 # The sources of the extension, and where lughemra.h may be: beside this file in the archive of the sources, else in the repository.
 EXTENSION = PACKAGE / "_speed.c"
 HEADERS = [HERE / "lughemra.h", HERE.parent / "crates/lughemra/include/lughemra.h"]
 FLAGS = ["-std=gnu11", "-O2", "-fPIC", "-shared", "-fvisibility=hidden"]
+# Where the wheel has programs.
+PROGRAMS = "lughemra/bin/"
 # The first date that a zip file can tell.
 DATE = (1980, 1, 1, 0, 0, 0)
 
@@ -53,9 +58,15 @@ def metadata(told):
     return "\n".join(lines) + "\n"
 
 
+def entry_points(told):
+    """Returns the text of entry_points.txt: a table of pyproject.toml for each group."""
+    groups = told.get("entry-points", {})
+    return "\n".join(f"[{group}]\n" + "".join(f"{name} = {it}\n" for name, it in pairs.items()) for group, pairs in groups.items())
+
+
 def package_files():
     """Returns the sources of the package."""
-    return [*sorted(PACKAGE.rglob("*.py")), PACKAGE / "py.typed"]
+    return [*sorted(PACKAGE.rglob("*.py")), PACKAGE / "py.typed", FIXTURES]
 
 
 def name_of(path):
@@ -118,23 +129,26 @@ def write_wheel(folder, files, platform):
     inside = f"{told['name']}-{told['version']}.dist-info"
     wheel = "Wheel-Version: 1.0\nGenerator: build_backend\n"
     wheel += f"Root-Is-Purelib: {str(platform == 'any').lower()}\nTag: {tag}\n"
-    texts = {"METADATA": metadata(told), "WHEEL": wheel}
+    texts = {"METADATA": metadata(told), "WHEEL": wheel, "entry_points.txt": entry_points(told)}
     files = [*files, *((f"{inside}/{name}", text.encode()) for name, text in texts.items())]
     record = "".join(record_line(*file) for file in files) + f"{inside}/RECORD,,\n"
     name = f"{told['name']}-{told['version']}-{tag}.whl"
     with zipfile.ZipFile(pathlib.Path(folder) / name, "w", zipfile.ZIP_DEFLATED) as archive:
         for path, data in [*files, (f"{inside}/RECORD", record.encode())]:
             entry = zipfile.ZipInfo(path, DATE)
-            entry.compress_type, entry.external_attr = zipfile.ZIP_DEFLATED, 0o644 << 16
+            # pip has a file be run only where this tells that it is a regular one, too.
+            mode = stat.S_IFREG | 0o755 if path.startswith(PROGRAMS) else 0o644
+            entry.compress_type, entry.external_attr = zipfile.ZIP_DEFLATED, mode << 16
             archive.writestr(entry, data)
     return name
 
 
-def write_shared_wheel(folder, shared, platform):
-    """Writes a wheel for the platform that holds the module, these bytes as its shared object, and the extension for this Python. Returns
-    its name."""
+def write_shared_wheel(folder, shared, platform, programs=()):
+    """Writes a wheel for the platform that holds the module, these bytes as its shared object, the extension for this Python, and programs,
+    each its name and its bytes. Returns its name."""
     files = [(name_of(path), path.read_bytes()) for path in package_files()]
-    return write_wheel(folder, [*files, (f"lughemra/{SHARED.name}", shared), *extension_files()], platform)
+    programs = [(PROGRAMS + name, data) for name, data in programs]
+    return write_wheel(folder, [*files, (f"lughemra/{SHARED.name}", shared), *extension_files(), *programs], platform)
 
 
 def build_wheel(wheel_directory, config_settings=None, metadata_directory=None):

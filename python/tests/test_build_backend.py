@@ -16,9 +16,9 @@ BASE = f"lughemra-{lughemra.__version__}"
 SHARED = "liblughemra.so.0"
 PACKAGE = ROOT / "python/lughemra"
 NAMES = {str(path.relative_to(PACKAGE)) for path in PACKAGE.rglob("*.py")} | {"py.typed"}
-WHEEL = {f"lughemra/{name}" for name in NAMES}
-WHEEL |= {f"{BASE}.dist-info/{name}" for name in ("METADATA", "WHEEL", "RECORD")}
-SOURCES = {f"{BASE}/{name}" for name in ("pyproject.toml", "build_backend.py", "PKG-INFO")}
+WHEEL = {f"lughemra/{name}" for name in NAMES} | {"lughemra_pytest.py"}
+WHEEL |= {f"{BASE}.dist-info/{name}" for name in ("METADATA", "WHEEL", "RECORD", "entry_points.txt")}
+SOURCES = {f"{BASE}/{name}" for name in ("pyproject.toml", "build_backend.py", "lughemra_pytest.py", "PKG-INFO")}
 SOURCES |= {f"{BASE}/lughemra/{name}" for name in NAMES}
 SOURCES |= {f"{BASE}/lughemra/{path.name}" for path in PACKAGE.glob("_speed*.[ch]")} | {f"{BASE}/lughemra.h"}
 

@@ -24,6 +24,7 @@ TAKEN = [
     "sent: Sequences = [('docs', [given, held, {}])]",
     "bson.encode({'a': [bson.ObjectId(), bson.Binary(b'', 4), bson.Int64(5)]})",
     "bson.decode(bytearray(b''), bson.CodecOptions(tz_aware=True))",
+    "mock.MockServer(timeout=5).receives('ping').replies({'ok': 1}, delay=0.5)",
 ]
 REFUSED = [
     "Document('text')",
@@ -47,12 +48,13 @@ REFUSED = [
     "bson.encode([])",
     "bson.ObjectId(5)",
     "bson.Binary(b'', 'x')",
+    "mock.MockServer().receives('ping').replies('text')",
 ]
 
 
 def test_what_lends_no_bytes_is_refused(tmp_path, monkeypatch):
     program = tmp_path / "program.py"
-    lines = ["import array", "import mmap", "from lughemra import *", "from lughemra import bson", *TAKEN, *REFUSED]
+    lines = ["import array", "import mmap", "from lughemra import *", "from lughemra import bson, mock", *TAKEN, *REFUSED]
     program.write_text("\n".join(lines), encoding="utf-8")
     monkeypatch.setenv("MYPYPATH", str(ROOT / "python"))
     monkeypatch.chdir(tmp_path)

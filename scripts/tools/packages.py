@@ -61,11 +61,12 @@ def write_containerfile(root, tarball, out):
 
 
 def write_wheel(root, dist, out):
-    """Writes the wheel, which holds the shared object beside the module."""
+    """Writes the wheel, which holds beside the module the shared object and the program whose name ends with `server`."""
     sys.path.insert(0, str(root / "python"))
     from build_backend import write_shared_wheel
 
-    return write_shared_wheel(out, dist.shared, PLATFORM)
+    server = next(name for name in programs(root) if name.endswith("server"))
+    return write_shared_wheel(out, dist.shared, PLATFORM, [(server, dist.programs[server])])
 
 
 def write_sums(out, names):
