@@ -269,7 +269,13 @@ def test_values_of_subclasses_are_written_as_their_base():
 @pytest.mark.usefixtures("way")
 @pytest.mark.parametrize(
     "data, words",
-    [(b"", "Truncated"), (b"\5\0\0\0\1", "End"), (b"\6\0\0\0\0", "Length"), (document_of("08", "02"), "Boolean at 4"), (document_of("0f", "00"), "Truncated")],
+    [
+        (b"", "Truncated"),
+        (b"\5\0\0\0\1", "End"),
+        (b"\6\0\0\0\0", "Length"),
+        (document_of("08", "02"), "Boolean at 4"),
+        (document_of("0f", "00"), "Truncated"),
+    ],
 )
 def test_faults_are_those_of_the_check(data, words):
     with pytest.raises(bson.InvalidBSON, match=words):
@@ -443,7 +449,9 @@ def test_object_ids_are_new_and_go_up():
     assert bson.ObjectId(OID) < bson.ObjectId("f" * 24) and bson.ObjectId(OID).binary.hex() == str(bson.ObjectId(OID)) == OID
 
 
-@pytest.mark.parametrize("text", ["0", "-0", "1.50", "-1E+6111", "9.999999999999999999999999999999999E+6144", "Infinity", "-Infinity", "NaN", "1E-6176"])
+@pytest.mark.parametrize(
+    "text", ["0", "-0", "1.50", "-1E+6111", "9.999999999999999999999999999999999E+6144", "Infinity", "-Infinity", "NaN", "1E-6176"]
+)
 def test_decimals(text):
     number = bson.Decimal128(text)
     assert (str(number), str(bson.Decimal128.from_bid(number.bid)), str(number.to_decimal())) == (text, text, text)

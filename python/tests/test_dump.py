@@ -12,7 +12,10 @@ DATA = lughemra.encode({"a": 1, "b": ["x"]})
 TEXT = lughemra.Document(DATA).text()
 
 
-@pytest.mark.parametrize("data, status, text, told", [(DATA * 2, 0, TEXT * 2, ""), (DATA + b"\5", 1, TEXT, f"fault 1 Truncated at {len(DATA)}\n"), (b"", 0, "", "")])
+@pytest.mark.parametrize(
+    "data, status, text, told",
+    [(DATA * 2, 0, TEXT * 2, ""), (DATA + b"\5", 1, TEXT, f"fault 1 Truncated at {len(DATA)}\n"), (b"", 0, "", "")],
+)
 def test_documents_are_written_as_text(tmp_path, capsys, data, status, text, told):
     (tmp_path / "file").write_bytes(data)
     assert __main__.main(["dump", str(tmp_path / "file")]) == status

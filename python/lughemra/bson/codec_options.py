@@ -10,12 +10,16 @@ from ._binary import ALL_UUID_REPRESENTATIONS, UUID_REPRESENTATION_NAMES, UuidRe
 from ._dates import DatetimeConversion as DatetimeConversion
 
 
+NO_REGISTRY = "a type_registry isn't supported: convert values before they are written and after they were read"
+NO_CLASS = "document_class must be dict, SON, RawBSONDocument, or a subclass of collections.abc.MutableMapping"
+
+
 class TypeRegistry:
     """Is refused: no types of a program's own are read or written."""
 
     def __init__(self, type_codecs: Any = None, fallback_encoder: Any = None) -> None:
         if type_codecs or fallback_encoder:
-            raise NotImplementedError("a type_registry isn't supported: convert values before they are written and after they were read")
+            raise NotImplementedError(NO_REGISTRY)
 
     def __eq__(self, other: object) -> bool:
         return isinstance(other, TypeRegistry)
@@ -54,7 +58,7 @@ class CodecOptions(_Fields):
     ) -> CodecOptions:
         document_class = document_class or dict
         if not (isinstance(document_class, type) and (issubclass(document_class, MutableMapping) or is_raw_document(document_class))):
-            raise TypeError("document_class must be dict, bson.son.SON, bson.raw_bson.RawBSONDocument, or a subclass of collections.abc.MutableMapping")
+            raise TypeError(NO_CLASS)
         if not isinstance(tz_aware, bool):
             raise TypeError(f"tz_aware must be True or False, was: tz_aware={tz_aware}")
         if uuid_representation not in ALL_UUID_REPRESENTATIONS:
@@ -68,7 +72,7 @@ class CodecOptions(_Fields):
         if type_registry is None:
             type_registry = TypeRegistry()
         elif not isinstance(type_registry, TypeRegistry):
-            raise NotImplementedError("a type_registry isn't supported: convert values before they are written and after they were read")
+            raise NotImplementedError(NO_REGISTRY)
         made: CodecOptions = super().__new__(
             cls, document_class, tz_aware, uuid_representation, "strict", tzinfo, type_registry, DatetimeConversion(datetime_conversion)
         )
@@ -108,8 +112,8 @@ def options_of(given: Any) -> CodecOptions:
     if not hasattr(given, "document_class") or not hasattr(given, "uuid_representation"):
         raise TypeError("codec_options must be an instance of CodecOptions")
     registry = getattr(given, "type_registry", None)
-    if registry is not None and (getattr(registry, "_encoder_map", None) or getattr(registry, "_decoder_map", None) or getattr(registry, "_fallback_encoder", None)):
-        raise NotImplementedError("a type_registry isn't supported: convert values before they are written and after they were read")
+    if any(getattr(registry, part, None) for part in ("_encoder_map", "_decoder_map", "_fallback_encoder")):
+        raise NotImplementedError(NO_REGISTRY)
     conversion = getattr(given, "datetime_conversion", None) or DatetimeConversion.DATETIME
     return CodecOptions(
         given.document_class,
