@@ -59,6 +59,7 @@ class Link:
         self._core = Server()
         # The requests that wait in the core, in its order.
         self._waiting: list[Request] = []
+        self._is_over = False
         self._thread = threading.Thread(target=self._run, daemon=True)
         self._thread.start()
 
@@ -97,11 +98,13 @@ class Link:
         self._take(request)
 
     def reply(self, request: Request, documents: list[Mapping[str, Any]]) -> bytes:
-        """Answers a request in the core. Returns the bytes that are to be sent."""
+        """Answers a request in the core. Returns the bytes that are to be sent: none once the connection is over."""
         encoded = [bson.encode(it) for it in documents]
         if request.message is None:
             return reply_to_query(request.request_id, encoded[0])
         with self._lock:
+            if self._is_over:
+                return b""
             place = next((k for k, it in enumerate(self._waiting) if it is request), None)
             if place is None:
                 raise ValueError("the request was answered before")
@@ -124,4 +127,5 @@ class Link:
             self.socket.shutdown(socket.SHUT_RDWR)
         self.socket.close()
         with self._lock:
+            self._is_over = True
             self._core.close()

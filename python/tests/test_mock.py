@@ -35,6 +35,14 @@ class Caller:
             self.client.feed(piece)
 
 
+def wait_until(holds):
+    """Waits until this holds, up to 10 seconds. Returns whether it does."""
+    until = time.monotonic() + 10
+    while not holds() and time.monotonic() < until:
+        time.sleep(0.01)
+    return holds()
+
+
 @pytest.fixture
 def server():
     with MockServer(timeout=5) as server:
@@ -124,6 +132,20 @@ def test_a_reply_is_cut_at_its_byte(server):
     while piece := caller.socket.recv(100):
         got += piece
     assert len(got) == 21 < struct.unpack_from("<i", got)[0]
+
+
+def test_an_answer_to_a_peer_that_is_gone_is_passed_over_and_a_second_one_is_refused(server):
+    caller = Caller(server)
+    for _ in range(2):
+        caller.client.call({"ping": 1, "$db": "zoo"})
+    caller.socket.sendall(caller.client.output())
+    first, second = server.receives("ping"), server.receives("ping")
+    first.ok()
+    with pytest.raises(ValueError, match="answered before"):
+        first.ok()
+    caller.socket.close()
+    assert wait_until(lambda: second._link._is_over)
+    second.ok()
 
 
 def test_a_delay_holds_a_reply(server):
