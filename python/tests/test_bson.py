@@ -243,6 +243,20 @@ def test_a_document_in_itself_is_refused():
 
 
 @pytest.mark.usefixtures("way")
+def test_documents_nest_two_hundred_deep():
+    deep = {}
+    for k in range(199):
+        deep = {"a": deep} if k % 2 else {"b": deep}
+    assert bson.decode(bson.encode(deep)) == deep
+    with pytest.raises(bson.InvalidDocument, match="TooDeep"):
+        bson.encode({"a": deep})
+    inner = bson.encode(deep)
+    outer = (len(inner) + 8).to_bytes(4, "little") + b"\3a\0" + inner + b"\0"
+    with pytest.raises(bson.InvalidBSON, match="Depth"):
+        bson.decode(outer)
+
+
+@pytest.mark.usefixtures("way")
 def test_names_are_looked_at_if_that_is_asked():
     assert bson.encode({"a.b": {"$c": 1}})
     for document in ({"a.b": 1}, {"$a": 1}, {"a": {"$c": 1}}):

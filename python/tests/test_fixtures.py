@@ -3,6 +3,7 @@
 import importlib.metadata
 import os
 import pathlib
+import re
 import subprocess
 import sys
 
@@ -54,6 +55,13 @@ def run(folder, text, **variables):
 
 def test_the_fixture_of_a_mock(tmp_path):
     assert "1 passed" in run(tmp_path, TEN_LINES)
+
+
+def test_the_example_of_the_page(tmp_path):
+    pytest.importorskip("pymongo")
+    page = (ROOT / "docs" / "PYTHON.md").read_text(encoding="utf-8")
+    (example,) = re.findall(r"^```\n(from lughemra.mock import .*?)^```$", page, re.M | re.S)
+    assert "1 passed" in run(tmp_path, example)
 
 
 @pytest.fixture
