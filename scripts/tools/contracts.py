@@ -1,4 +1,4 @@
-"""Reads the contracts of crates/*/src, for scripts/tools/reference and scripts/checks/proved-rows."""
+"""Reads the contracts of crates/*/src, for scripts/tools/reference and scripts/checks/promises."""
 
 import re
 
