@@ -21,6 +21,8 @@ STATIC = ROOT / "crates/lughemra/out/liblughemra.a"
 # The words that begin the lines of a MANIFEST, of which there are as many as crates, libraries or files, or one.
 FACTS = ("sources", "kit", "cc", "gate", "crate", "holds", "static", "file")
 SINGLE = ("sources", "kit", "cc", "gate", "static")
+# What stands for the verdict on a crate that an earlier run proved, where no record has it.
+KEPT = "logic=proved kept"
 
 
 def listed_programs():
@@ -124,8 +126,9 @@ class NotProved(Exception):
 
 
 def verdicts(log):
-    """Takes what `rt ci` wrote, and returns the first words of the verdict on each crate."""
-    found = {}
+    """Takes what `rt ci` wrote, and returns the first words of the verdict on each crate; or KEPT, where an earlier run proved it on this
+    machine, of the same files over the same libraries."""
+    found = {name: KEPT for name in re.findall(r"^rt: (\w+) is kept: ", log, re.M)}
     for block in re.split(r"^== ", log, flags=re.M)[1:]:
         name, _, rest = block.partition("\n")
         said, ended, _ = ("\n" + rest).partition(f"\nrt: {name} proved\n")
@@ -133,6 +136,15 @@ def verdicts(log):
         if ended and counts:
             found[name] = f"logic=proved {counts[-1]}"
     return found
+
+
+def known_verdicts(sources):
+    """Returns the verdicts on crates that a gate of these sources kept on this machine, or else those of dist/ where that is of them."""
+    for path in (kept_gate() / RECORD.name, MANIFEST):
+        found = facts(path.read_text(encoding="utf-8")) if path.is_file() else {}
+        if found and only(found, "sources") == sources:
+            return dict(line.split(maxsplit=1) for line in found["crate"])
+    return {}
 
 
 def kit_libraries(crate, kit):
@@ -157,6 +169,8 @@ def record_of(sources, log):
     lacking = [crate for crate in crates if crate not in proved]
     if lacking or not re.fullmatch(r"\d+ passed, 0 failed", last):
         raise NotProved(f"rt ci doesn't tell that {lacking[0]} is proved" if lacking else "the last line of rt ci tells no pass")
+    known = known_verdicts(sources) if KEPT in proved.values() else {}
+    proved = {crate: known.get(crate, KEPT) if verdict == KEPT else verdict for crate, verdict in proved.items()}
     kit = pathlib.Path(said_by("rt", "doc")).parent
     lines = [f"sources {sources}", f"kit {said_by('rt', 'version')}", f"cc {said_by('cc', '--version').splitlines()[0]}", f"gate {last}"]
     lines += [f"crate {crate} {proved[crate]}" for crate in crates]
