@@ -1,5 +1,5 @@
 #!/usr/bin/env python3
-"""Asks a test server with the second script of docs/TESTSERVER.md by PyMongo.
+"""Asks a bsonserver with the second script of docs/SERVER.md by PyMongo.
 
     examples/script.py URI
 

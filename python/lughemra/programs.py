@@ -41,7 +41,7 @@ def server_program() -> str:
 class ServerProgram:
     """Runs the server program at a free port of this machine, until `close`, or the end of a `with`.
 
-    `script` is the text of its rules, as docs/TESTSERVER.md has them. It ends when its standard input does, so one whose starter dies
+    `script` is the text of its rules, as docs/SERVER.md has them. It ends when its standard input does, so one whose starter dies
     doesn't stay.
     """
 

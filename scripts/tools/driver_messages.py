@@ -1,5 +1,5 @@
 #!/usr/bin/env python3
-"""Messages as drivers send them to the test server.
+"""Messages as drivers send them to bsonserver.
 
     python3 scripts/tools/driver_messages.py ADDRESS [COMMAND..]
     python3 scripts/tools/driver_messages.py --wanted

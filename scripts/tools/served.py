@@ -87,8 +87,8 @@ def memory_of(process):
 
 
 def server_words(words):
-    """Returns these words, or those of the server that ./test_server runs."""
-    return words or [program_of("test_server")]
+    """Returns these words, or those of the server that ./bsonserver runs."""
+    return words or [program_of("bsonserver")]
 
 
 def reply(link):

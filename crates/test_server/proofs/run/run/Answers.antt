@@ -1,8 +1,0 @@
-use Rattle.test_server.proofs.Shows.{refused_ends, run_ends}
-use Rattle.test_server.proofs.run.run.Goals as goal
-
-pub returns-in-Ok : goal.returns-in-Ok
-returns-in-Ok g c = run_ends c.args.choice c.in-Ok.scripts.script.rules.items c.in-Ok.scripts.guide.rules.items c.serve_at.result _ _ c.in-Ok.ensures.read c.serve_at.ensures
-
-pub returns-in-Err : goal.returns-in-Err
-returns-in-Err g c = refused_ends c.args.choice c.in-Err.end _ c.in-Err.ensures.refused

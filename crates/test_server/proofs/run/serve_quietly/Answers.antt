@@ -1,5 +1,0 @@
-use Rattle.test_server.proofs.Shows.{quiet_shows}
-use Rattle.test_server.proofs.run.serve_quietly.Goals as goal
-
-pub returns-clause-served : goal.returns-clause-served
-returns-clause-served g c = λ a. quiet_shows c.serve_until.result c.args.connections.now.serving c.serve_until.new.connections.serving a c.serve_until.ensures.served

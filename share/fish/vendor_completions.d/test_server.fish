@@ -1,9 +1,0 @@
-# Made by scripts/tools/pages from what the program prints at --help.
-complete -c test_server -f
-complete -c test_server -l connections -r -f -d 'End after this many connections; without it the server goes on'
-complete -c test_server -l quiet -d 'Write only the first line and the last one'
-complete -c test_server -l until-stdin-closes -d 'End when standard input does'
-complete -c test_server -l port-file -r -F -d 'Write the port and a line feed to FILE once the server listens'
-complete -c test_server -l script -r -F -d 'Answer by the rules of FILE, and where they say nothing, as without them'
-complete -c test_server -s h -l help -d 'Print help'
-complete -c test_server -s V -l version -d 'Print version'
