@@ -8,6 +8,7 @@ import shutil
 import subprocess
 
 from copied_crates import crates_below
+from kept_proofs import all_kept
 
 ROOT = pathlib.Path(__file__).resolve().parents[2]
 DIST = ROOT / "dist"
@@ -139,7 +140,13 @@ def verdicts(log):
 
 
 def known_verdicts(sources):
-    """Returns the verdicts on crates that a gate of these sources kept on this machine, or else those of dist/ where that is of them."""
+    """Returns the verdicts on crates that were proved before: those of proofs on this machine, or else of a gate of these sources that was kept
+    here, or else of dist/ where that is of them."""
+    return {**recorded_verdicts(sources), **{crate: f"logic=proved {functions}" for crate, (functions, _) in all_kept().items()}}
+
+
+def recorded_verdicts(sources):
+    """Returns the verdicts of the record of a gate of these sources that was kept on this machine, or else those of dist/ where that is of them."""
     for path in (kept_gate() / RECORD.name, MANIFEST):
         found = facts(path.read_text(encoding="utf-8")) if path.is_file() else {}
         if found and only(found, "sources") == sources:

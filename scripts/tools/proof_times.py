@@ -5,9 +5,6 @@ import os
 import pathlib
 import threading
 
-ROOT = pathlib.Path(__file__).resolve().parents[2]
-# The seconds that the last proof of each crate took on this machine, a line a crate: its name, and the seconds.
-TIMES = ROOT / "out/proof-times"
 # How often processes are looked at, in seconds: at most so much of a proof's end isn't seen.
 OFTEN = 0.5
 TICKS = os.sysconf("SC_CLK_TCK")
@@ -63,16 +60,3 @@ class ProofTimes:
         self.ended.set()
         self.thread.join()
         return {crate: sum(each.values()) for crate, each in self.seconds.items()}
-
-
-def kept():
-    """Returns the seconds of each crate's last proof that was seen here."""
-    lines = TIMES.read_text(encoding="ascii").splitlines() if TIMES.is_file() else []
-    return {line.split()[0]: float(line.split()[1]) for line in lines}
-
-
-def keep(seconds):
-    """Keeps the seconds of these crates, beside those of others."""
-    TIMES.parent.mkdir(parents=True, exist_ok=True)
-    lines = [f"{crate} {told:.1f}\n" for crate, told in sorted({**kept(), **seconds}.items())]
-    TIMES.write_text("".join(lines), encoding="ascii")
