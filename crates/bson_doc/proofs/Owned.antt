@@ -8,21 +8,18 @@ use Rattle.std.specs.Str.{bytes_eq}
 use Rattle.std.specs.String.{string_eq}
 use Rattle.std.proofs.lemmas.List.{length-map}
 use Rattle.std.proofs.lemmas.Map.Keys.{IsDistinct-head, IsDistinct-tail}
-use Rattle.bson_elem.specs.Trees.{Tree, no_pairs, leaf_pair, inner_pair}
+use Rattle.bson_elem.specs.Trees.{Tree}
 use Rattle.bson_raw.specs.Pairs.{TreeValue, leaf_value, document_value, with_first, is_among}
 use Rattle.bson_doc.specs.declared.refusal.DocRefusal.{DocRefusal}
 use Rattle.bson_doc.specs.declared.refusal.DocRefusal.TheVariants.{RepeatedName, OutOfMemory, TooLarge, ZeroInName, Depth}
 use Rattle.bson_doc.specs.declared.bson_values.Bson.{Bson}
 use Rattle.bson_doc.specs.Array.{array_tree}
 use Rattle.bson_doc.specs.Bson.{value_of}
-use Rattle.bson_doc.specs.Document.{paired, tree_of}
+use Rattle.bson_doc.specs.Document.{Pairs, paired, pairs_of, tree_of}
 use Rattle.bson_doc.specs.Plain.{plain, plain_from}
 use Rattle.bson_doc.specs.Repeats.{repeat_depth, repeat_in, repeat_in_value, IsRepeat}
 use Rattle.bson_doc.specs.Values.{plain_value}
 use Rattle.bson_doc.proofs.Reading.{plain_from-with_first, repeat_in-with_first}
-
-abbrev Pairs : Type 0
-Pairs = List (List ℕ × TreeValue)
 
 -- the names and the values of pairs
 abbrev pub names : Pairs → List (List ℕ)
@@ -118,22 +115,15 @@ set_distinct ks bs e d = rw (names_seen ks bs e) (distinct_bytes ks d)
 
 -- ---- the pairs of a tree
 
-abbrev pairs_of : Tree → Pairs
-pairs_of no_pairs = []
-pairs_of (leaf_pair n k v ps) = (n, leaf_value k v) ∷ pairs_of ps
-pairs_of (inner_pair n k b inner ps) = (n, document_value k b inner) ∷ pairs_of ps
-
-pairs_of-tree_of : (ps : Pairs) → pairs_of (tree_of ps) ≡ ps
-pairs_of-tree_of [] = refl
-pairs_of-tree_of (p ∷ ps) = pairs_of-with_first p.0 p.1 (tree_of ps) ∙ ap (λ (q : Pairs). p ∷ q) (pairs_of-tree_of ps)
-  where
-    pairs_of-with_first : (n : List ℕ) (v : TreeValue) (t : Tree) → pairs_of (with_first n v t) ≡ (n, v) ∷ pairs_of t
-    pairs_of-with_first n (leaf_value k v) t = refl
-    pairs_of-with_first n (document_value k b inner) t = refl
+-- the pairs of the tree of pairs are these
+pub pairs_of_tree : (ps : Pairs) → pairs_of (tree_of ps) ≡ ps
+pairs_of_tree [] = refl
+pairs_of_tree ((n, leaf_value k v) ∷ ps) = ap (λ (q : Pairs). (n, leaf_value k v) ∷ q) (pairs_of_tree ps)
+pairs_of_tree ((n, document_value k b inner) ∷ ps) = ap (λ (q : Pairs). (n, document_value k b inner) ∷ q) (pairs_of_tree ps)
 
 -- pairs with the same tree are the same pairs
 pub one_document : (ps qs : Pairs) → tree_of ps ≡ tree_of qs → ps ≡ qs
-one_document ps qs e = sym (pairs_of-tree_of ps) ∙ ap pairs_of e ∙ pairs_of-tree_of qs
+one_document ps qs e = sym (pairs_of_tree ps) ∙ ap pairs_of e ∙ pairs_of_tree qs
 
 -- values with the same array are the same values
 values-array_tree : (index : ℕ) (vs : List TreeValue) → values (pairs_of (array_tree index vs)) ≡ vs

@@ -25,7 +25,7 @@ pub use Rattle.bson_text.specs.Dump
 pub use Rattle.bson_doc.specs.Array.{array_tree}
 pub use Rattle.bson_doc.specs.Bson.{value_of}
 pub use Rattle.bson_doc.specs.Codes.{coded_value}
-pub use Rattle.bson_doc.specs.Document.{put, tree_of}
+pub use Rattle.bson_doc.specs.Document.{Pairs, pairs_of, put, tree_of}
 pub use Rattle.bson_doc.specs.Plain.{canonical_len, plain}
 pub use Rattle.bson_doc.specs.Repeats.{repeat_depth}
 pub use Rattle.bson_doc.specs.Room.{IsLengthWithin}

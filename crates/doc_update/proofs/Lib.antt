@@ -6,4 +6,3 @@ pub mod PathCounts
 pub mod Overlaps
 pub mod ElementLaws
 pub mod Placings
-pub mod Lemmas

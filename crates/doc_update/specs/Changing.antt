@@ -3,7 +3,7 @@
 use Rattle.std.specs.Prelude.{[], ◌∷◌, Bool, false, not, Option, Some, None, Result, Ok, Err, codes}
 use Rattle.std.specs.Prelude.{is_some, if◌then◌else◌}
 use Rattle.bson_raw.specs.{TreeValue}
-use Rattle.bson_doc.specs.{coded_value, same}
+use Rattle.bson_doc.specs.{Pairs, coded_value, same}
 use Rattle.bson_doc.specs.Document.{value_named}
 use Rattle.doc_query.specs.declared.failure.CommandError.{CommandError}
 use Rattle.doc_query.specs.declared.failure.CommandError.TheVariants as errors
@@ -12,7 +12,6 @@ use Rattle.doc_update.specs.declared.operators.Change.TheVariants.{Operate, Repl
 use Rattle.doc_update.specs.declared.operators.Operators.{Operators}
 use Rattle.doc_update.specs.declared.setting.Edit.TheVariants as edits
 use Rattle.doc_query.specs.{and_then}
-use Rattle.doc_update.specs.Pairs.{Pairs}
 use Rattle.doc_update.specs.Identity.{put_each}
 use Rattle.doc_update.specs.Removing.{without_each}
 use Rattle.doc_update.specs.Setting.{edit_each}

@@ -6,10 +6,9 @@ use Rattle.std.specs.Int.{to_be_bytes, w64}
 use Rattle.bson_elem.specs.declared.kinds.Kind.TheVariants as kinds
 use Rattle.bson_elem.specs.{no_code, raw_value}
 use Rattle.bson_raw.specs.{TreeValue, document_value, first_named, leaf_value}
-use Rattle.bson_doc.specs.{put, tree_of}
+use Rattle.bson_doc.specs.{Pairs, pairs_of, put, tree_of}
 use Rattle.bson_doc.specs.Document.{value_named}
 use Rattle.doc_query.specs.{equal}
-use Rattle.doc_update.specs.Pairs.{Pairs, pairs_of}
 
 -- the `_id` of a document
 abbrev pub id_in : TreeValue → Option TreeValue

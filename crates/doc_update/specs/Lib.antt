@@ -1,4 +1,3 @@
-pub mod Pairs
 pub mod WriteErrors
 pub mod Identity
 pub mod Increments
@@ -12,7 +11,6 @@ pub mod Upserts
 pub mod Deleting
 pub mod Updating
 -- the words that clauses of other crates cite
-pub use Rattle.doc_update.specs.Pairs.{pairs_of}
 pub use Rattle.doc_update.specs.WriteErrors.{has_error, write_error}
 pub use Rattle.doc_update.specs.Identity.{free_number, id_fault, id_in, identified, is_taken}
 pub use Rattle.doc_update.specs.Identity.{made_id}

@@ -5,6 +5,7 @@ use Rattle.std.specs.Prelude.{None, Result, Ok, Err, codes, is_some, ifâ—Œthenâ—
 use Rattle.std.specs.Str.{bytes_eq}
 use Rattle.bson_elem.specs.declared.kinds.Kind.TheVariants as kinds
 use Rattle.bson_raw.specs.{TreeValue, document_value}
+use Rattle.bson_doc.specs.{Pairs, pairs_of}
 use Rattle.bson_doc.specs.Document.{tree_of, value_named}
 use Rattle.doc_query.specs.declared.failure.CommandError.{CommandError}
 use Rattle.doc_query.specs.declared.failure.CommandError.TheVariants as errors
@@ -12,7 +13,6 @@ use Rattle.doc_update.specs.declared.operators.Change.{Change}
 use Rattle.doc_update.specs.declared.operators.Change.TheVariants.{Operate, Replace}
 use Rattle.doc_update.specs.declared.operators.Operators.{Operators}
 use Rattle.doc_query.specs.{and_then, begins_with_operator, is_operator, unless_fault}
-use Rattle.doc_update.specs.Pairs.{Pairs, pairs_of}
 use Rattle.doc_update.specs.Paths.{overlap_within, paths_fault, paths_of}
 use Rattle.doc_update.specs.Increments.{number_of}
 

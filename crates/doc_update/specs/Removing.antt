@@ -3,9 +3,9 @@
 use Rattle.std.specs.Prelude.{ℕ, zero, suc, List, [], ◌∷◌, Option, Some, None, unwrap_or}
 use Rattle.bson_elem.specs.declared.kinds.Kind.TheVariants as kinds
 use Rattle.bson_raw.specs.{TreeValue, document_value}
+use Rattle.bson_doc.specs.{Pairs, pairs_of}
 use Rattle.bson_doc.specs.Document.{put, value_named, without}
 use Rattle.doc_query.specs.{array, inner, null, steps, values_in}
-use Rattle.doc_update.specs.Pairs.{Pairs, pairs_of}
 use Rattle.doc_update.specs.Elements.{index_of}
 
 -- what is left of a value that may be missing

@@ -4,6 +4,7 @@ use Rattle.std.specs.Prelude.{ℕ, List, [], ◌∷◌, Option, Some, None, Resu
 use Rattle.std.specs.Prelude.{slice_get}
 use Rattle.bson_elem.specs.declared.kinds.Kind.TheVariants as kinds
 use Rattle.bson_raw.specs.{TreeValue, document_value}
+use Rattle.bson_doc.specs.{Pairs, pairs_of}
 use Rattle.bson_doc.specs.Document.{put, value_named}
 use Rattle.doc_query.specs.declared.failure.CommandError.{CommandError}
 use Rattle.doc_query.specs.declared.failure.CommandError.TheVariants as errors
@@ -11,7 +12,6 @@ use Rattle.doc_update.specs.declared.increments.Number.{Number}
 use Rattle.doc_update.specs.declared.setting.Edit.{Edit}
 use Rattle.doc_update.specs.declared.setting.Edit.TheVariants as edits
 use Rattle.doc_query.specs.{and_then, array, inner, steps, values_in}
-use Rattle.doc_update.specs.Pairs.{Pairs, pairs_of}
 use Rattle.doc_update.specs.Elements.{index_in, put_at}
 use Rattle.doc_update.specs.Increments.{number_of, sum}
 

@@ -6,7 +6,7 @@ use Rattle.std.specs.Prelude.{is_some, if◌then◌else◌}
 use Rattle.bson_elem.specs.declared.kinds.Kind.TheVariants as kinds
 use Rattle.bson_elem.specs.{Tree, no_code}
 use Rattle.bson_raw.specs.{TreeValue, document_value, first_named, names_of}
-use Rattle.bson_doc.specs.{coded_value, same, tree_of, value_of}
+use Rattle.bson_doc.specs.{coded_value, pairs_of, same, tree_of, value_of}
 use Rattle.doc_query.specs.declared.failure.CommandError.{CommandError}
 use Rattle.doc_query.specs.declared.failure.CommandError.TheVariants as errors
 use Rattle.doc_update.specs.declared.operators.Change.{Change}
@@ -16,7 +16,6 @@ use Rattle.doc_update.specs.declared.updates.Outcome.{Outcome}
 use Rattle.doc_update.specs.declared.updates.Updates.{Updates}
 use Rattle.doc_query.specs.{and_then, asked_flag, code_of, compared, count_value, inner, matches}
 use Rattle.doc_query.specs.{words_of}
-use Rattle.doc_update.specs.Pairs.{pairs_of}
 use Rattle.doc_update.specs.Changing.{changed}
 use Rattle.doc_update.specs.Deleting.{filter_at}
 use Rattle.doc_update.specs.Identity.{free_number, id_fault, id_in, is_taken, with_id}

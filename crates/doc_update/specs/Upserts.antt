@@ -4,12 +4,12 @@ use Rattle.std.specs.Prelude.{ℕ, List, [], ◌∷◌, Bool, true, false, not, 
 use Rattle.std.specs.Prelude.{Result, Ok, Err, codes, is_some, if◌then◌else◌}
 use Rattle.bson_elem.specs.declared.kinds.Kind.TheVariants as kinds
 use Rattle.bson_raw.specs.{TreeValue, document_value, first_named}
+use Rattle.bson_doc.specs.{Pairs}
 use Rattle.bson_doc.specs.Document.{put, value_named}
 use Rattle.doc_query.specs.declared.failure.CommandError.{CommandError}
 use Rattle.doc_query.specs.declared.failure.CommandError.TheVariants as errors
 use Rattle.doc_update.specs.declared.operators.Change.{Change}
 use Rattle.doc_query.specs.{and_then, has_operators, is_plain_name}
-use Rattle.doc_update.specs.Pairs.{Pairs}
 use Rattle.doc_update.specs.Changing.{changed_fields, still_has}
 
 -- ---- the fields that the filter gives

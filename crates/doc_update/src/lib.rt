@@ -5,7 +5,7 @@
 //! paths of it. No two documents get one `_id`, and none changes its own. A document that is inserted without
 //! an `_id` is given one, which is a function of the documents beside it.
 //!
-//! Stands on bson_doc and doc_query. test_store and test_script stand on it. Read first: `operators`, `setting`,
+//! Stands on bson_doc and doc_query. test_store stands on it. Read first: `operators`, `setting`,
 //! `removing` and `changing`, then `identity`, and then `updates`.
 #![tactic(auto)]
 

@@ -2,13 +2,12 @@
 use Rattle.std.proofs.Common.{◌≡◌, List, [], ◌∷◌, Option, Some, None, Ok, Err, refl, sym, ap, ◌∙◌}
 use Rattle.std.specs.Prelude.{option_map}
 use Rattle.bson_elem.specs.{Tree}
-use Rattle.bson_doc.specs.{tree_of}
+use Rattle.bson_doc.proofs.Lemmas.{pairs_of_tree}
+use Rattle.bson_doc.specs.{Pairs, pairs_of, tree_of}
 use Rattle.doc_query.specs.declared.failure.CommandError.{CommandError}
 use Rattle.doc_query.specs.{body_of, or_error, owned}
-use Rattle.doc_update.proofs.Lemmas.{pairs_of_tree}
-use Rattle.doc_update.specs.{pairs_of}
 use Rattle.wire_msg.specs.{Content, Sequence}
-use Rattle.test_script.specs.Asked.{Fields, asked_value, document_of, with_sequences}
+use Rattle.test_script.specs.Asked.{asked_value, document_of, with_sequences}
 
 by_owned : (e : CommandError) (o : Option Tree) (u : Tree) → or_error e o ≡ Ok u → o ≡ Some u
 by_owned e None u is = absurd cc
@@ -23,12 +22,12 @@ none_left [] = refl
 none_left (q ∷ qs) = none_left qs
 
 -- a body that was read has these fields
-pub read_body : (c : Content) (ps : Fields) → body_of c.body ≡ Ok (tree_of ps)
+pub read_body : (c : Content) (ps : Pairs) → body_of c.body ≡ Ok (tree_of ps)
     → asked_value c ≡ option_map document_of (with_sequences c.sequences (Some ps))
 read_body c ps is =
     ap (λ (o : Option Tree). option_map document_of (with_sequences c.sequences (option_map pairs_of o)))
     (by_owned _ (owned c.body) (tree_of ps) is)
-    ∙ ap (λ (l : Fields). option_map document_of (with_sequences c.sequences (Some l)))
+    ∙ ap (λ (l : Pairs). option_map document_of (with_sequences c.sequences (Some l)))
     (pairs_of_tree ps)
 
 -- and one that was refused is none
