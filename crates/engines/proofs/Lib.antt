@@ -6,7 +6,6 @@ pub mod DocumentReadings
 pub mod TextLaws
 pub mod MessageReadings
 pub mod MessageLaws
-pub mod FrameTexts
 pub mod FrameReadings
 pub mod FrameLaws
 pub mod RecordTexts

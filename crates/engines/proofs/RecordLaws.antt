@@ -8,13 +8,13 @@ use Rattle.wire_record.specs.declared.head.Direction.TheVariants.{FromServer, To
 use Rattle.wire_record.specs.declared.head.RecordHead.{RecordHead}
 use Rattle.wire_record.specs.{HasHead, IsRecord, direction_number, message_of, signature}
 use Rattle.wire_record.proofs.Lemmas.{fault_once, faulty_not_whole, one_front}
+use Rattle.wire_text.proofs.Lemmas.{one_of_frame}
 use Rattle.engines.specs.declared.record_text.RecordForm.TheVariants as form
 use Rattle.engines.specs.InputFault.{record_line}
 use Rattle.engines.specs.OrRecords.{TextOrRecords}
 use Rattle.engines.specs.Output.{TextOf}
 use Rattle.engines.specs.RecordText.{IsRecordText, direction_sign, head_line, record_closing}
 use Rattle.engines.specs.Records.{RecordsText, records_of}
-use Rattle.engines.proofs.FrameLaws.{one_of_frame}
 use Rattle.engines.proofs.ItemLaws.{IsTold, one_items_text}
 use Rattle.engines.proofs.RecordReadings.{records_kind}
 use Rattle.std.proofs.lemmas.List.{append_cancel_left}

@@ -9,12 +9,15 @@ use Rattle.wire_frame.specs.declared.opcode.Opcode.TheVariants.{Compressed, Msg,
 use Rattle.wire_msg.specs.{header_of}
 use Rattle.wire_record.specs.declared.head.RecordHead.{RecordHead}
 use Rattle.wire_record.specs.{HasHead, head_of, message_of}
+use Rattle.wire_text.specs.{IsFrameText}
 use Rattle.engines.specs.declared.json.Layout.{Layout}
 use Rattle.engines.specs.declared.record_text.RecordForm.TheVariants.{Text, Json}
-use Rattle.engines.specs.FrameText.{IsFrameText}
 use Rattle.engines.specs.Json.{end_of_value}
 use Rattle.engines.specs.RecordText.{IsFrameJson, IsKindJson, IsRecordText, head_json, head_line, header_json, named, record_front}
-use Rattle.engines.proofs.FrameTexts.{Wrote}
+
+-- a text of this sort was written between two states of a writer
+abbrev pub Wrote : Option (List ℕ) → Option (List ℕ) → (List ℕ → Type 0) → Type 0
+Wrote old new IsText = (text : List ℕ) × IsText text × Appends old new text
 
 -- a text of one sort is one of another
 pub wrote_as : {E : Type 0} (r : Result (Unit {0}) E) (a b : Option (List ℕ)) (Is As : List ℕ → Type 0) → ((text : List ℕ) → Is text → As text) → OnOk r (Wrote a b Is) → OnOk r (Wrote a b As)

@@ -2,8 +2,8 @@
 use Rattle.std.specs.Prelude.{◌≡◌, ℕ, List}
 use Rattle.wire_msg.specs.declared.fault.MsgCause.TheVariants.{Length}
 use Rattle.wire_frame.specs.{IsFrame, LacksFrame, WantsMore}
-use Rattle.engines.specs.FrameText.{IsFrameText}
-use Rattle.engines.specs.InputFault.{ended_inside_line, msg_line}
+use Rattle.wire_text.specs.{IsFrameText, msg_fault_line}
+use Rattle.engines.specs.InputFault.{ended_inside_line}
 use Rattle.engines.specs.Output.{TextOf, nothing}
 use Rattle.engines.specs.Items.{AllItems, FirstItems, ItemKind, ItemsText}
 
@@ -17,7 +17,7 @@ frames_of limit = record {
   is_item = IsFrame limit;
   is_open = IsOpenFrame limit;
   inside_line = ended_inside_line;
-  is_bad = λ start bytes line. LacksFrame limit bytes × (line ≡ msg_line start Length);
+  is_bad = λ start bytes line. LacksFrame limit bytes × (line ≡ msg_fault_line start Length);
   is_text = IsFrameText;
 }
 

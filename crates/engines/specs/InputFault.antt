@@ -2,10 +2,9 @@
 use Rattle.std.specs.Prelude.{ℕ, ◌+◌, List, ◌++◌, codes, Option, None, Some}
 use Rattle.bson_elem.specs.declared.fault.BsonFault.{BsonFault}
 use Rattle.bson_elem.specs.{bson_fault_text}
-use Rattle.wire_msg.specs.declared.fault.MsgCause.{MsgCause}
-use Rattle.wire_msg.specs.{fault_text}
 use Rattle.wire_record.specs.declared.fault.RecordCause.{RecordCause}
 use Rattle.wire_record.specs.{record_fault_text}
+use Rattle.wire_text.specs.{msg_fault_line}
 use Rattle.engines.specs.FaultLine.{fault_line}
 use Rattle.engines.specs.declared.input_fault.InputFault.{InputFault}
 use Rattle.engines.specs.declared.input_fault.InputFault.TheVariants.{Hex, Bson, TooLarge, Msg}
@@ -25,10 +24,6 @@ bson_line start f = bson_fault_text (start + f.at) f.cause ++ codes "\n"
 abbrev pub too_large_line : ℕ → List ℕ
 too_large_line offset = fault_line 16 (codes "TooLarge") offset
 
--- the line of a message's fault at this offset
-abbrev pub msg_line : ℕ → MsgCause → List ℕ
-msg_line offset c = fault_text offset c ++ codes "\n"
-
 -- the line of a record's fault at this offset
 abbrev pub record_line : ℕ → RecordCause → List ℕ
 record_line offset c = record_fault_text offset c ++ codes "\n"
@@ -46,7 +41,7 @@ abbrev pub input_fault_line : InputFault → List ℕ
 input_fault_line (Hex offset) = hex_line offset
 input_fault_line (Bson f) = bson_fault_text f.at f.cause ++ codes "\n"
 input_fault_line (TooLarge offset) = too_large_line offset
-input_fault_line (Msg f) = msg_line f.at f.cause
+input_fault_line (Msg f) = msg_fault_line f.at f.cause
 input_fault_line (Record f) = record_line f.at f.cause
 input_fault_line (EndedInside offset) = ended_inside_line offset
 input_fault_line (Script line) = script_line line

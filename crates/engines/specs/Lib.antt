@@ -19,7 +19,6 @@ pub mod BsonOf
 pub mod Canon
 pub mod Json
 pub mod Msg
-pub mod FrameText
 pub mod Any
 pub mod FrameWalk
 pub mod RecordText

@@ -2,10 +2,10 @@
 use Rattle.std.specs.Prelude.{◌≡◌, ℕ, ◌+◌, List, ◌++◌, codes}
 use Rattle.wire_msg.specs.declared.fault.MsgFault.{MsgFault}
 use Rattle.wire_msg.specs.{IsBad, IsMessage, IsOpen, Message, SpellsMsg}
-use Rattle.wire_text.specs.{IsMessageJson, message_text}
+use Rattle.wire_text.specs.{IsMessageJson, message_text, msg_fault_line}
 use Rattle.engines.specs.declared.msg.MessageForm.{MessageForm}
 use Rattle.engines.specs.declared.msg.MessageForm.TheVariants.{Text, Json}
-use Rattle.engines.specs.InputFault.{ended_inside_line, msg_line}
+use Rattle.engines.specs.InputFault.{ended_inside_line}
 use Rattle.engines.specs.Output.{TextOf, nothing}
 use Rattle.engines.specs.Items.{AllItems, FirstItems, ItemKind, ItemsText}
 
@@ -24,7 +24,7 @@ messages_of form limit = record {
   is_open = IsOpen limit;
   inside_line = ended_inside_line;
   is_bad = λ start bytes line.
-      (f : MsgFault) × IsBad limit bytes f × (line ≡ msg_line (start + f.at) f.cause);
+      (f : MsgFault) × IsBad limit bytes f × (line ≡ msg_fault_line (start + f.at) f.cause);
   is_text = λ start bytes text. (m : Message) × SpellsMsg m bytes × MayBeMessage form m text;
 }
 

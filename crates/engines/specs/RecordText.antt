@@ -7,7 +7,7 @@ use Rattle.wire_msg.specs.declared.fault.MsgCause.{MsgCause}
 use Rattle.wire_msg.specs.declared.fault.MsgFault.{MsgFault}
 use Rattle.wire_msg.specs.declared.header.MsgHeader.{MsgHeader}
 use Rattle.wire_msg.specs.{FaultMsg, Message, SpellsMsg, fault_text, header_of}
-use Rattle.wire_text.specs.{IsMessageJson}
+use Rattle.wire_text.specs.{IsFrameText, IsMessageJson}
 use Rattle.wire_frame.specs.declared.opcode.Opcode.{Opcode}
 use Rattle.wire_frame.specs.declared.opcode.Opcode.TheVariants.{Msg}
 use Rattle.wire_frame.specs.{IsOwnKind, opcode_number}
@@ -19,7 +19,6 @@ use Rattle.engines.specs.declared.json.Layout.{Layout}
 use Rattle.engines.specs.declared.json.Layout.TheVariants.{Lines, Array}
 use Rattle.engines.specs.declared.record_text.RecordForm.{RecordForm}
 use Rattle.engines.specs.declared.record_text.RecordForm.TheVariants.{Text, Json}
-use Rattle.engines.specs.FrameText.{IsFrameText}
 use Rattle.engines.specs.Json.{behind_values, end_of_value}
 
 -- to the server, and from it

@@ -4,12 +4,11 @@ ghost use Rattle.std.specs.Prelude.{◌++◌, OnOk, codes};
 ghost use Rattle.std.specs.Io.KnownBytes.{Appends};
 ghost use Rattle.bson_elem.specs.{bson_fault_text};
 ghost use Rattle.engines.specs.FaultLine.{fault_line};
-ghost use Rattle.engines.specs.InputFault.{msg_line, record_line};
+ghost use Rattle.engines.specs.InputFault.{record_line};
 
 use bson_elem::BsonFault;
 use std::io;
 use std::io::Write;
-use wire_msg::MsgFault;
 use wire_record::RecordFault;
 
 /// Writes the line of the fault with this number and name, at `offset` in the input.
@@ -24,14 +23,6 @@ pub fn write_fault<W: Write>(number: u8, name: &str, offset: usize, out: &mut W)
 pub fn write_bson_fault<W: Write>(fault: BsonFault, out: &mut W) -> io::Result<()>
     ensures { OnOk result (Appends (W.contents out.old) (W.contents out.new)
         (bson_fault_text fault.at fault.cause ++ codes "\n")) }
-{
-    writeln!(out, "{fault}")
-}
-
-/// Writes the line of the fault of a message.
-pub fn write_msg_fault<W: Write>(fault: MsgFault, out: &mut W) -> io::Result<()>
-    ensures { OnOk result (Appends (W.contents out.old) (W.contents out.new)
-        (msg_line fault.at fault.cause)) }
 {
     writeln!(out, "{fault}")
 }

@@ -6,7 +6,6 @@ ghost use Rattle.engines.specs.FrameWalk.{any_reading, any_tells};
 ghost use Rattle.engines.specs.ItemWalk.{GoesOverItems};
 ghost use Rattle.engines.specs.Walk.{Tells};
 
-use crate::frame_text::write_frame;
 use crate::input_fault::InputFault;
 use crate::walk::{Stop, Walk};
 use std::alloc::Global;
@@ -14,6 +13,7 @@ use std::io;
 use std::io::Write;
 use wire_frame::{FrameFront, FrameReader};
 use wire_msg::{MAX_MESSAGE_LEN, MsgFault};
+use wire_text::write_frame;
 
 /// Reads the messages of an input, of any opCode.
 #[derive(Drop)]

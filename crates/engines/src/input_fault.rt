@@ -4,12 +4,13 @@ ghost use Rattle.std.specs.Prelude.{OnOk};
 ghost use Rattle.std.specs.Io.KnownBytes.{Appends};
 ghost use Rattle.engines.specs.InputFault.{input_fault_line};
 
-use crate::fault_line::{write_bson_fault, write_fault, write_msg_fault, write_record_fault};
+use crate::fault_line::{write_bson_fault, write_fault, write_record_fault};
 use bson_elem::BsonFault;
 use std::io;
 use std::io::Write;
 use wire_msg::MsgFault;
 use wire_record::RecordFault;
+use wire_text::write_msg_fault;
 
 /// A fault of an input. An `offset` counts from the input's first byte, or from the first of those
 /// that hexadecimal text spells.

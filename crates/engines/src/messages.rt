@@ -3,12 +3,13 @@
 ghost use Rattle.std.specs.Prelude.{◌≡◌, ◌⊎◌, ◌+◌, IfOk, IfSome, OnOk, false, true};
 ghost use Rattle.std.specs.Io.KnownBytes.{IsAtEnd, Keeps};
 ghost use Rattle.bson_json.specs.{WritesOne};
-ghost use Rattle.engines.specs.InputFault.{input_fault_line, msg_line};
+ghost use Rattle.engines.specs.InputFault.{input_fault_line};
 ghost use Rattle.engines.specs.ItemWalk.{GoesOverItems};
 ghost use Rattle.engines.specs.MessageWalk.{message_reading, message_tells};
 ghost use Rattle.engines.specs.Msg.{MayBeMessage, messages_of};
 ghost use Rattle.engines.specs.Walk.{Tells};
 ghost use Rattle.wire_msg.specs.{IsOpen, Message, SpellsMsg, msg_bytes};
+ghost use Rattle.wire_text.specs.{msg_fault_line};
 
 use crate::input_fault::InputFault;
 use crate::msg::MessageForm;
@@ -47,7 +48,7 @@ pub struct MessageReader {
 /// 2 ^ 64 - 1 is told: an input of so many bytes isn't read to its end.
 fn stop_at(start: usize, fault: MsgFault) -> Stop
     ensures { (f : InputFault) → result ≡ Stop.Fault f
-        → input_fault_line f ≡ msg_line (start + fault.at) fault.cause }
+        → input_fault_line f ≡ msg_fault_line (start + fault.at) fault.cause }
 {
     let Some(at) = start.checked_add(fault.at) else {
         return Stop::OutOfMemory;

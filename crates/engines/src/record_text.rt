@@ -9,7 +9,6 @@ ghost use Rattle.engines.specs.RecordText.{IsFrameJson, IsMsgJson, IsRecordText,
 ghost use Rattle.engines.specs.RecordText.{faulty_json, head_json, head_line, header_front};
 ghost use Rattle.engines.specs.RecordText.{header_json, named, record_closing, record_front};
 
-use crate::frame_text::write_frame;
 use crate::json::{Layout, closing_text, end_text};
 use bson_json::Mode;
 use std::alloc::Global;
@@ -18,7 +17,7 @@ use std::io::Write;
 use wire_frame::{Opcode, RawFrame};
 use wire_msg::{MAX_MESSAGE_LEN, MsgFault, MsgHeader, RawMsg};
 use wire_record::{Direction, HEAD_LEN, RawRecord, RecordHead};
-use wire_text::write_message_json;
+use wire_text::{write_frame, write_message_json};
 
 /// The offset of the first record in a file of records, behind its signature.
 pub const FIRST_RECORD: usize = 8;

@@ -2,14 +2,13 @@
 
 use crate::direction::Direction;
 use bson_json::{Mode, write_json, write_json_string};
-use engines::write_frame;
 use std::alloc::Global;
 use std::io;
 use std::io::Write;
 use wire_frame::{Opcode, RawFrame};
 use wire_msg::{MAX_MESSAGE_LEN, RawMsg};
 use wire_query::RawQuery;
-use wire_text::write_message_json;
+use wire_text::{write_frame, write_message_json};
 
 /// Writes the text of a message that goes this way on the connection of this number.
 ///

@@ -6,8 +6,8 @@
 //! pieces. `RawFrame::opcode` says which kind of message a frame is, and `RawFrame::checksum`
 //! whether the CRC-32C of an OP_MSG is right.
 //!
-//! Uses wire_msg. Used by wire_record, engines, proxy, shared_proxy and replay. Read first:
-//! `specs/Frames.antt`.
+//! Uses wire_msg. Used by wire_record, wire_text, engines, proxy, shared_proxy and replay. Read
+//! first: `specs/Frames.antt`.
 #![tactic(auto)]
 
 mod checksum;

@@ -1,10 +1,11 @@
--- The text of a message.
+-- The text of a message, and the line of a fault.
 use Rattle.std.specs.Prelude.{ℕ, List, ◌++◌, length, codes, flat_map, Bool, true, false}
 use Rattle.std.specs.Fmt.{decimal, signed_decimal}
 use Rattle.bson_elem.specs.{Tree}
 use Rattle.bson_text.specs.{document_size, element_lines, quoted}
+use Rattle.wire_msg.specs.declared.fault.MsgCause.{MsgCause}
 use Rattle.wire_msg.specs.declared.flags.MsgFlags.{MsgFlags}
-use Rattle.wire_msg.specs.{Message, Sequence, message_len}
+use Rattle.wire_msg.specs.{Message, Sequence, fault_text, message_len}
 use Rattle.wire_text.specs.declared.messages.Detail.{Detail}
 use Rattle.wire_text.specs.declared.messages.Detail.TheVariants.{Line, Documents}
 
@@ -52,3 +53,7 @@ abbrev pub message_text : Message → List ℕ
 message_text m =
     message_line m ++ (body_text m.content.body
     ++ flat_map (text_of_sequence Documents) m.content.sequences)
+
+-- the line of a message's fault at this offset
+abbrev pub msg_fault_line : ℕ → MsgCause → List ℕ
+msg_fault_line offset c = fault_text offset c ++ codes "\n"

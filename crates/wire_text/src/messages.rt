@@ -1,19 +1,21 @@
-//! Writes the text of a message. No function here takes memory.
+//! Writes the text of a message, and the line of a fault. No function here takes memory.
 
 ghost use Rattle.std.specs.Prelude.{◌≡◌, List, OnOk, flat_map};
+ghost use Rattle.std.specs.Io.KnownBytes.{Appends};
 ghost use Rattle.text_writer.specs.{WritesOut};
 ghost use Rattle.bson_elem.specs.{Spells, Tree};
 ghost use Rattle.bson_raw.specs.{document_bytes};
 ghost use Rattle.wire_msg.specs.{Carries, Content, DocumentsAre, Message, Sequence, SpellsMsg};
 ghost use Rattle.wire_msg.specs.{msg_bytes};
 ghost use Rattle.wire_text.specs.MessageText.{body_text, flags_text, member_text, message_line};
-ghost use Rattle.wire_text.specs.MessageText.{message_text, sequence_line, text_of_sequence};
+ghost use Rattle.wire_text.specs.MessageText.{message_text, msg_fault_line, sequence_line};
+ghost use Rattle.wire_text.specs.MessageText.{text_of_sequence};
 
 use bson_raw::RawDocument;
 use bson_text::{dump_elements, quoted_to};
 use std::io;
 use std::io::Write;
-use wire_msg::{Documents, MsgFlags, Payload, RawMsg};
+use wire_msg::{Documents, MsgFault, MsgFlags, Payload, RawMsg};
 
 /// How much of a document sequence is written.
 #[derive(Clone, Copy, Debug, PartialEq, Eq)]
@@ -145,4 +147,16 @@ pub fn write_message<W: Write>(message: RawMsg<'_>, out: &mut W) -> io::Result<(
     write_message_line(message, out)?;
     write_body(payload.body(), out)?;
     write_sequences(payload, Detail::Documents, out)
+}
+
+/// Writes the line of the fault of a message.
+///
+/// # Errors
+///
+/// Returns the error of the writer, which may have taken a part of the line.
+pub fn write_msg_fault<W: Write>(fault: MsgFault, out: &mut W) -> io::Result<()>
+    ensures { OnOk result (Appends (W.contents out.old) (W.contents out.new)
+        (msg_fault_line fault.at fault.cause)) }
+{
+    writeln!(out, "{fault}")
 }

@@ -3,8 +3,7 @@ use Rattle.std.proofs.lemmas.Bool.Decides.{nat_tests}
 use Rattle.wire_msg.specs.declared.fault.MsgFault.{MsgFault}
 use Rattle.wire_frame.specs.{FrameReading, IsFrame, IsWholeFrame, frame_bytes}
 use Rattle.engines.specs.Any.{IsOpenFrame, frames_of}
-use Rattle.engines.specs.FrameText.{IsFrameText}
-use Rattle.engines.specs.InputFault.{msg_line}
+use Rattle.wire_text.specs.{IsFrameText, msg_fault_line}
 use Rattle.engines.proofs.FrameReadings.{frame_alone, frames_kind, takes_some}
 use Rattle.engines.proofs.ItemReadings.{fewer_left, no_item, item_fed, item_released, some_left, whole_takes}
 use Rattle.engines.proofs.frames.write_each.Goals as goal
@@ -31,7 +30,7 @@ returns-in-Bad g c =
       limit = c.in-Ok.ensures.limit ∙ i.1;
       rest = new.held ++ rest;
       written = item_fed _ n _ c.loop-taken.reader.frames.held new.held c.loop-taken.rest.now _ _ _ _ i.2 c.in-Ok.ensures.held.1;
-      stopped = (frames_kind new.limit).bad_longer start new.held rest (msg_line start c.in-Bad.fault.cause) (c.in-Bad.ensures.0, ap (λ (x : MsgFault). msg_line start x.cause) c.in-Bad.ensures.1);
+      stopped = (frames_kind new.limit).bad_longer start new.held rest (msg_fault_line start c.in-Bad.fault.cause) (c.in-Bad.ensures.0, ap (λ (x : MsgFault). msg_fault_line start x.cause) c.in-Bad.ensures.1);
     }
 
 pub loop-taken-smaller : goal.loop-taken-smaller

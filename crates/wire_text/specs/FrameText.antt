@@ -4,14 +4,13 @@ use Rattle.std.specs.Fmt.{decimal, signed_decimal}
 use Rattle.wire_msg.specs.declared.fault.MsgFault.{MsgFault}
 use Rattle.wire_msg.specs.declared.header.MsgHeader.{MsgHeader}
 use Rattle.wire_msg.specs.{FaultMsg, Message, SpellsMsg, header_of}
-use Rattle.wire_text.specs.{message_text}
 use Rattle.wire_frame.specs.declared.checksum.Checksum.{Checksum}
 use Rattle.wire_frame.specs.declared.checksum.Checksum.TheVariants.{Absent, Right, Wrong}
 use Rattle.wire_frame.specs.declared.opcode.Opcode.{Opcode}
 use Rattle.wire_frame.specs.declared.opcode.Opcode.TheVariants.{Reply, Query, Compressed, Msg}
 use Rattle.wire_frame.specs.declared.opcode.Opcode.TheVariants.{Other}
 use Rattle.wire_frame.specs.{IsChecksumOf, IsOwnKind, opcode_number}
-use Rattle.engines.specs.InputFault.{msg_line}
+use Rattle.wire_text.specs.MessageText.{message_text, msg_fault_line}
 
 -- the word for each kind of messages
 abbrev pub kind_word : Opcode → List ℕ
@@ -38,7 +37,7 @@ abbrev pub IsMsgText : ℕ → List ℕ → List ℕ → Type 0
 IsMsgText start bytes text =
     ((m : Message) × SpellsMsg m bytes × (text ≡ message_text m))
     ⊎ ((f : MsgFault) × FaultMsg bytes 48000000 f
-    × (text ≡ header_line Msg (header_of bytes) ++ msg_line (start + f.at) f.cause))
+    × (text ≡ header_line Msg (header_of bytes) ++ msg_fault_line (start + f.at) f.cause))
 
 -- what is written of a frame of this kind, but for its checksum
 abbrev pub IsKindText : Opcode → ℕ → List ℕ → List ℕ → Type 0

@@ -7,7 +7,7 @@ use Rattle.wire_frame.specs.declared.checksum.Checksum.{Checksum}
 use Rattle.wire_frame.specs.declared.opcode.Opcode.{Opcode}
 use Rattle.wire_frame.specs.declared.opcode.Opcode.TheVariants.{Compressed, Msg, Other, Query, Reply}
 use Rattle.wire_frame.specs.{IsChecksumOf, IsOwnKind, opcode_number}
-use Rattle.engines.specs.FrameText.{IsFrameText, IsKindText, checksum_line, header_line}
+use Rattle.wire_text.specs.FrameText.{IsFrameText, IsKindText, checksum_line, header_line}
 
 -- a text of this sort was written between two states of a writer
 abbrev pub Wrote : Option (List ℕ) → Option (List ℕ) → (List ℕ → Type 0) → Type 0

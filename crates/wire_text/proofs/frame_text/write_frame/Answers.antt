@@ -1,9 +1,9 @@
 use Rattle.std.proofs.Common.{ap}
 use Rattle.wire_frame.specs.{frame_bytes}
-use Rattle.engines.specs.FrameText.{IsKindText, header_line}
-use Rattle.engines.proofs.FrameTexts.{Wrote, frame_written, other_kind}
-use Rattle.engines.proofs.frame_text.write_frame.Goals as goal
-use Rattle.engines.proofs.frame_text.write_frame.Goals.{in-Msg+in_ok-write_op_msg-in-Msg, in_default+in_ok-write_header-in_default}
+use Rattle.wire_text.specs.FrameText.{IsKindText, header_line}
+use Rattle.wire_text.proofs.FrameTexts.{Wrote, frame_written, other_kind}
+use Rattle.wire_text.proofs.frame_text.write_frame.Goals as goal
+use Rattle.wire_text.proofs.frame_text.write_frame.Goals.{in-Msg+in_ok-write_op_msg-in-Msg, in_default+in_ok-write_header-in_default}
 
 pub returns : goal.returns
 returns g c =

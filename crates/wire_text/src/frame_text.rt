@@ -1,19 +1,18 @@
-//! The text of a message of any opCode.
+//! Writes the text of a message of any opCode. Memory is taken to check an OP_MSG.
 
 ghost use Rattle.std.specs.Prelude.{◌≡◌, ◌+◌, ◌<◌, ◌^◌, OnOk, length};
 ghost use Rattle.std.specs.Io.KnownBytes.{Appends};
 ghost use Rattle.bson_json.specs.{WritesOne};
 ghost use Rattle.wire_frame.specs.{frame_bytes};
-ghost use Rattle.engines.specs.FrameText.{IsFrameText, IsMsgText, checksum_line, header_line};
-ghost use Rattle.engines.specs.FrameText.{kind_word};
+ghost use Rattle.wire_text.specs.FrameText.{IsFrameText, IsMsgText, checksum_line, header_line};
+ghost use Rattle.wire_text.specs.FrameText.{kind_word};
 
-use crate::fault_line::write_msg_fault;
+use crate::messages::{write_message, write_msg_fault};
 use std::alloc::Global;
 use std::io;
 use std::io::Write;
 use wire_frame::{Checksum, Opcode, RawFrame};
 use wire_msg::{MAX_MESSAGE_LEN, MsgFault, MsgHeader, RawMsg};
-use wire_text::write_message;
 
 /// Returns the word for a kind of messages.
 fn kind_word(kind: Opcode) -> &'static str
@@ -84,6 +83,10 @@ fn write_checksum<W: Write>(checksum: Checksum, out: &mut W) -> io::Result<()>
 }
 
 /// Writes the text of a frame that begins at offset `start` of the input.
+///
+/// # Errors
+///
+/// Returns the error of the writer, which may have taken a part of the text.
 pub fn write_frame<W: Write>(
     alloc: Global,
     frame: RawFrame<'_>,
