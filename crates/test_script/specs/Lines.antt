@@ -7,7 +7,7 @@ use Rattle.bson_doc.specs.{tree_of}
 use Rattle.doc_query.specs.{filter_in}
 use Rattle.doc_query.specs.declared.failure.CommandError.{CommandError}
 use Rattle.test_store.specs.{error_pairs}
-use Rattle.wire_script.specs.{IsNumber}
+use Rattle.script_lines.specs.{IsNumber}
 use Rattle.test_script.specs.declared.action.Action.{Action}
 use Rattle.test_script.specs.declared.action.Action.TheVariants as actions
 use Rattle.test_script.specs.declared.fault.Cause.{Cause}

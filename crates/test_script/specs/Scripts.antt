@@ -1,6 +1,6 @@
 -- What a script is read as.
 use Rattle.std.specs.Prelude.{◌≡◌, ℕ, List, [], ◌∷◌, ◌++◌}
-use Rattle.wire_script.specs.{script_lines}
+use Rattle.script_lines.specs.{script_lines}
 use Rattle.test_script.specs.declared.fault.ScriptFault.{ScriptFault}
 use Rattle.test_script.specs.Lines.{FailsBy, IsRule}
 use Rattle.test_script.specs.Rules.{RuleView}

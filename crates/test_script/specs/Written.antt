@@ -6,7 +6,7 @@ use Rattle.bson_raw.specs.{TreeValue}
 use Rattle.bson_doc.specs.{tree_of}
 use Rattle.bson_json_read.specs.{document_in}
 use Rattle.doc_query.specs.{body_of}
-use Rattle.wire_script.specs.{IsHex}
+use Rattle.script_lines.specs.{IsHex}
 use Rattle.test_script.specs.declared.fault.Cause.{Cause}
 use Rattle.test_script.specs.declared.fault.Cause.TheVariants as causes
 use Rattle.test_script.specs.Tokens.{begins_object, behind, word_in}

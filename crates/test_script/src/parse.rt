@@ -15,8 +15,8 @@ use crate::parts::{cut_filter, cut_times, read_command, read_filter, read_times}
 use crate::rule::Rule;
 use crate::token::{begins_value, cut_word};
 use crate::written::no_document;
+use script_lines::LineError;
 use std::alloc::Global;
-use wire_script::LineError;
 
 /// Reads the operands of an action.
 fn action_of(alloc: Global, keyword: Keyword, operands: &[u8]) -> Result<Action, LineError>

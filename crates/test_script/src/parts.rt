@@ -11,8 +11,8 @@ use crate::token::cut_word;
 use crate::written::{no_document, read_document};
 use bson_doc::Document;
 use doc_query::applicable;
+use script_lines::{LineError, number};
 use std::alloc::{AllocError, Global};
-use wire_script::{LineError, number};
 
 /// Cuts off the filter, if there is one. Returns it, and what stands behind it.
 pub(crate) fn cut_filter(text: &[u8]) -> (Option<&[u8]>, &[u8])

@@ -17,9 +17,9 @@ use crate::fault::{Cause, ScriptFault};
 use crate::parse::parse_rule;
 use crate::rule::Rule;
 use bson_doc::Bson;
+use script_lines::{Lines, NumberedLine};
 use std::alloc::{AllocError, Global};
 use wire_msg::Payload;
-use wire_script::{Lines, NumberedLine};
 
 /// Returns the fault of a line.
 fn fault_of(line: NumberedLine<'_>, cause: Cause) -> ScriptFault

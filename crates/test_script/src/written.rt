@@ -12,8 +12,8 @@ use bson_doc::Document;
 use bson_json_read::{Cause as JsonCause, from_json};
 use bson_raw::RawDocument;
 use doc_query::{Failure, owned_body};
+use script_lines::{LineError, bytes_of};
 use std::alloc::Global;
-use wire_script::{LineError, bytes_of};
 
 /// Returns the document that the text is as Extended JSON.
 fn read_json(alloc: Global, text: &str) -> Result<Document, LineError>

@@ -12,10 +12,11 @@ use Rattle.wire_model.specs.declared.refusals.WorldRefusal.{WorldRefusal}
 use Rattle.wire_model.specs.declared.refusals.WorldRefusal.TheVariants.{OutOfMemory}
 use Rattle.wire_model.specs.declared.reports.Report.{Report}
 use Rattle.wire_model.specs.{AreGood, Happens, World, opening}
+use Rattle.script_lines.specs.{script_lines}
 use Rattle.wire_script.specs.declared.named.HandlerName.{HandlerName}
 use Rattle.wire_script.specs.declared.named.HandlerName.TheVariants.{Echo, Count}
 use Rattle.wire_script.specs.declared.named.Setup.{Setup}
-use Rattle.wire_script.specs.{Names, event, script_lines, setup}
+use Rattle.wire_script.specs.{Names, event, setup}
 use Rattle.wire_play.specs.Closing.{closing_text}
 use Rattle.wire_play.specs.Reports.{result_line}
 

@@ -5,7 +5,7 @@
 //! an event in it. For the result of an event one line is written. A line that names no event ends
 //! the text, and its number is returned.
 //!
-//! Uses wire_script and wire_world. Used by engines. Read first: `specs/Scripts.antt`, and then
+//! Uses script_lines, wire_script and wire_world. Used by engines. Read first: `specs/Scripts.antt`, and then
 //! `playing`.
 #![tactic(auto)]
 

@@ -1,17 +1,18 @@
 //! Plays scripts: makes the events that their lines name happen in a world, one after another.
 
 ghost use Rattle.std.specs.Prelude.{◌≡◌, IfOk, OnOk};
-ghost use Rattle.wire_script.specs.{lines_left};
+ghost use Rattle.script_lines.specs.{lines_left};
 ghost use Rattle.wire_play.specs.Played.{EventPlayed, LinePlayed, LinesPlayed, OverText, SetupText};
 ghost use Rattle.wire_play.specs.Scripts.{PlaysIn, TextUpTo, Writes};
 
 use crate::closing::write_closing;
 use crate::reports::write_result;
+use script_lines::{LineError, Lines};
 use std::alloc::Global;
 use std::io;
 use std::io::Write;
 use wire_peer::{Count, Echo, Handler};
-use wire_script::{HandlerName, Line, LineError, Lines, Setup, parse_line};
+use wire_script::{HandlerName, Line, Setup, parse_line};
 use wire_world::{Event, SetupRefusal, World, WorldLimits, WorldRefusal};
 
 /// Why the rest of a script's text wasn't written.

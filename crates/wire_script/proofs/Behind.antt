@@ -1,7 +1,7 @@
 -- The words behind a word.
 use Rattle.std.proofs.Common.{◌≡◌, ◌≢◌, ℕ, Bool, true, false, not, List, [], ◌∷◌, Option, Some, None, Bor, refl, sym, ◌∙◌}
 use Rattle.std.specs.Prelude.{is_some, IsTrue}
-use Rattle.wire_script.proofs.Cuts.{some_part}
+use Rattle.script_lines.proofs.Lemmas.{some_part}
 use Rattle.wire_script.specs.Reading.{words_behind}
 use Rattle.wire_script.specs.Words.{is_blank}
 

@@ -9,10 +9,11 @@ use Rattle.wire_msg.specs.declared.payloads.Payload.{Payload}
 use Rattle.wire_msg.proofs.Lemmas.{one_content}
 use Rattle.wire_peer.specs.declared.calls.CallKind.{CallKind}
 use Rattle.bson_raw.specs.{document_bytes}
+use Rattle.script_lines.specs.{IsHex}
 use Rattle.wire_script.specs.declared.keyword.Keyword.TheVariants as keywords
 use Rattle.wire_script.specs.Naming.{AreEventOperands, HasHex, IsCall, IsRaw, event, event_kind}
 use Rattle.wire_script.specs.Same.{IsSame}
-use Rattle.wire_script.specs.Words.{IsDocumentHex, IsHex}
+use Rattle.wire_script.specs.Words.{IsDocumentHex}
 use Rattle.wire_script.proofs.BareEvents.{first_value}
 
 -- ---- calls

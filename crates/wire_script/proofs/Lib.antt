@@ -1,10 +1,8 @@
 pub mod BareEvents
 pub mod Behind
 pub mod BytesEvents
-pub mod Cuts
 pub mod Keywords
 pub mod Lemmas
-pub mod Numerals
 pub mod Parts
 pub mod Readings
 pub mod Setups

@@ -1,11 +1,11 @@
 -- Setups: operands name one at most.
 use Rattle.std.proofs.Common.{◌≡◌, ◌∙◌, ◌^◌, ℕ, ℤ, pos, List, [], ◌∷◌, refl, sym, ap}
 use Rattle.std.specs.Str.Parse.{digits_value}
+use Rattle.script_lines.specs.{IsNumber}
 use Rattle.wire_script.specs.declared.named.HandlerName.{HandlerName}
 use Rattle.wire_script.specs.declared.named.HandlerName.TheVariants.{Echo, Count}
 use Rattle.wire_script.specs.declared.named.Setup.{Setup}
 use Rattle.wire_script.specs.Naming.{IsSetup, handler_word}
-use Rattle.wire_script.specs.Words.{IsNumber}
 
 abbrev made : HandlerName → ℤ → ℕ → ℕ → ℕ → Setup
 made h id window max limit = record { handler = h; limits = record { first_id = id; window = window; connections = max; limit = limit } }

@@ -7,6 +7,7 @@ use Rattle.wire_model.specs.declared.events.Event.TheVariants.{CutUp, CutDown, C
 use Rattle.wire_model.specs.declared.events.Event.TheVariants.{RawOpen, Raw, RawTake}
 use Rattle.wire_msg.specs.{Carries, body_alone}
 use Rattle.wire_msg.specs.declared.payloads.Payload.{Payload}
+use Rattle.script_lines.specs.{IsHex, IsNumber}
 use Rattle.wire_peer.specs.declared.calls.CallKind.{CallKind}
 use Rattle.wire_peer.specs.declared.calls.CallKind.TheVariants.{Plain, Exhaust, Unacknowledged}
 use Rattle.wire_script.specs.declared.keyword.Keyword.{Keyword}
@@ -14,7 +15,7 @@ use Rattle.wire_script.specs.declared.keyword.Keyword.TheVariants as keywords
 use Rattle.wire_script.specs.declared.named.HandlerName.{HandlerName}
 use Rattle.wire_script.specs.declared.named.HandlerName.TheVariants.{Echo, Count}
 use Rattle.wire_script.specs.declared.named.Setup.{Setup}
-use Rattle.wire_script.specs.Words.{IsDocumentHex, IsHex, IsNumber, words_of}
+use Rattle.wire_script.specs.Words.{IsDocumentHex, words_of}
 
 -- what a line can name: a world, by its handler and its limits, or an event in it
 pub data Named : Type 0 where

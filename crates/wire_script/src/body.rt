@@ -1,33 +1,15 @@
-//! Reads bytes in hexadecimal digits, and documents.
+//! Reads documents, as payloads.
 
-ghost use Rattle.std.specs.Prelude.{◌≡◌, ℕ, Err, IfOk, List};
+ghost use Rattle.std.specs.Prelude.{◌≡◌, Err, IfOk};
 ghost use Rattle.bson_elem.specs.{Tree};
 ghost use Rattle.wire_msg.specs.{BufCarries, Carries, body_alone};
 ghost use Rattle.wire_msg.specs.declared.payloads.Payload.{Payload};
-ghost use Rattle.wire_script.specs.Words.{IsDocumentHex, IsHex};
+ghost use Rattle.wire_script.specs.Words.{IsDocumentHex};
 
-use crate::named::LineError;
 use bson_raw::RawDocument;
-use hex::FromHexError;
+use script_lines::{LineError, bytes_of};
 use std::alloc::Global;
 use wire_msg::{MsgRefusal, PayloadBuf};
-
-/// Returns the bytes that the word spells.
-///
-/// # Errors
-///
-/// Returns `Malformed` if it spells none, and `OutOfMemory` if memory runs out.
-pub fn bytes_of(alloc: Global, word: &[u8]) -> Result<Vec<u8>, LineError>
-    ensures spelled { IfOk result (λ v. IsHex word.now v.items) }
-    ensures nothing { result ≡ Err LineError.Malformed → (bytes : List ℕ) → IsHex word.now bytes
-        → ⊥ }
-{
-    match hex::decode(alloc, word) {
-        Ok(bytes) => Ok(bytes),
-        Err(FromHexError::OutOfMemory) => Err(LineError::OutOfMemory),
-        Err(_) => Err(LineError::Malformed),
-    }
-}
 
 /// Returns the payload whose body is the document that the word spells.
 pub(crate) fn payload_of(alloc: Global, word: &[u8]) -> Result<PayloadBuf, LineError>

@@ -1,4 +1,4 @@
-//! Proves the laws of lines. The contract of each function is the law.
+//! Proves the laws of what lines name. The contract of each function is the law.
 
 ghost use Rattle.std.specs.Prelude.{◌≡◌, ◌≢◌, ◌∷◌, ◌++◌, [], All, ℕ, List, Result};
 ghost use Rattle.std.specs.List.{join_with_byte};
@@ -7,22 +7,11 @@ ghost use Rattle.wire_model.specs.declared.events.Event.{Event as Happening};
 ghost use Rattle.wire_model.specs.declared.limits.WorldLimits.{WorldLimits as Limits};
 ghost use Rattle.wire_model.specs.declared.refusals.WorldRefusal.{WorldRefusal as Refusal};
 ghost use Rattle.wire_model.specs.declared.reports.Report.{Report as Done};
-ghost use Rattle.wire_script.specs.Lines.{lines_of, without_cr};
 ghost use Rattle.wire_script.specs.Naming.{Named, Names, event};
 ghost use Rattle.wire_script.specs.Same.{IsSame};
 ghost use Rattle.wire_script.specs.Words.{words_of};
 
 use wire_peer::Handler;
-
-/// Proves that an LF ends a line, that a CR right before it is dropped, and that the last line may
-/// have none.
-pub fn an_lf_ends_a_line()
-    ensures ended { (line rest : List ℕ) → All (λ b. b ≢ 10) line
-        → lines_of (line ++ 10 ∷ rest) ≡ without_cr line ∷ lines_of rest }
-    ensures last { (line : List ℕ) → All (λ b. b ≢ 10) line → line ≢ []
-        → lines_of line ≡ line ∷ [] }
-    ensures none { lines_of [] ≡ [] }
-{}
 
 /// Proves that a space ends a word, and that a line is its words with one space between them.
 pub fn a_space_ends_a_word()

@@ -58,12 +58,3 @@ pub enum Line {
     /// An event in the world.
     Event(ScriptEvent),
 }
-
-/// Why a line can't be read.
-#[derive(Clone, Copy, Debug, PartialEq, Eq)]
-pub enum LineError {
-    /// The line names nothing.
-    Malformed,
-    /// Memory ran out.
-    OutOfMemory,
-}

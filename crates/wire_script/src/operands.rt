@@ -8,10 +8,10 @@ ghost use Rattle.wire_script.specs.Naming.{AreTwoNumbers, HasHex, IsCall, IsOneN
 ghost use Rattle.wire_script.specs.Naming.{IsSetup, handler_word};
 ghost use Rattle.wire_script.specs.Reading.{setup_words, words_behind};
 
-use crate::body::{bytes_of, payload_of};
+use crate::body::payload_of;
 use crate::cut::next_word;
-use crate::named::{HandlerName, LineError, Setup};
-use crate::numbers::{number, number_i32, number_u32};
+use crate::named::{HandlerName, Setup};
+use script_lines::{LineError, bytes_of, number, number_i32, number_u32};
 use std::alloc::Global;
 use wire_model::WorldLimits;
 use wire_msg::PayloadBuf;

@@ -9,8 +9,9 @@ ghost use Rattle.wire_script.specs.Reading.{IsBare, words_behind};
 
 use crate::cut::cut_word;
 use crate::keyword::{Keyword, read_keyword};
-use crate::named::{Line, LineError, ScriptEvent};
+use crate::named::{Line, ScriptEvent};
 use crate::operands::{call, has_no_words, one_number, raw, setup, two_numbers};
+use script_lines::LineError;
 use std::alloc::Global;
 use wire_model::Event;
 

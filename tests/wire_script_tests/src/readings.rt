@@ -1,10 +1,11 @@
 //! Rows that say what a line is to be read as.
 
+use script_lines::LineError;
 use std::alloc::Global;
 use wire_model::Event;
 use wire_msg::Payload;
 use wire_peer::CallKind;
-use wire_script::{Line, LineError, Setup, parse_line};
+use wire_script::{Line, Setup, parse_line};
 
 /// What a line is to name.
 #[derive(Clone, Copy, Debug)]

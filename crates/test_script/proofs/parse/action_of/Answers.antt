@@ -1,6 +1,6 @@
 use Rattle.std.proofs.Common.{◌≡◌, Result, Err, ap, subst}
 use Rattle.test_script.specs.declared.keyword.Keyword.{Keyword}
-use Rattle.wire_script.specs.declared.named.LineError.{LineError}
+use Rattle.script_lines.specs.declared.errors.LineError.{LineError}
 use Rattle.test_script.specs.Lines.{IsActionOf}
 use Rattle.test_script.proofs.parse.action_of.Goals as goal
 

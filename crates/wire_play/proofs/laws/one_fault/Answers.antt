@@ -1,4 +1,4 @@
-use Rattle.wire_script.specs.{script_lines}
+use Rattle.script_lines.specs.{script_lines}
 use Rattle.wire_play.proofs.ScriptLaws.{lines_fault}
 use Rattle.wire_play.proofs.laws.one_fault.Goals as goal
 

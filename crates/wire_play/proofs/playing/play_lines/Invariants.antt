@@ -1,5 +1,5 @@
 use Rattle.std.proofs.Common.{◌≡◌}
-use Rattle.wire_script.specs.{lines_left}
+use Rattle.script_lines.specs.{lines_left}
 use Rattle.wire_play.proofs.Plays.{SoFar}
 use Rattle.wire_play.proofs.playing.play_lines.Given as goal
 

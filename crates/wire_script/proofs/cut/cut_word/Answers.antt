@@ -1,6 +1,6 @@
 use Rattle.std.proofs.Common.{◌+◌, ◌∙◌, ◌∷◌, List, ℕ, ap, sym, take}
 use Rattle.std.proofs.lemmas.List.{take_rest}
-use Rattle.wire_script.proofs.Cuts.{cut_at, uncut}
+use Rattle.script_lines.proofs.Lemmas.{cut_at, uncut}
 use Rattle.wire_script.specs.Words.{words_of}
 use Rattle.wire_script.proofs.cut.cut_word.Goals as goal
 

@@ -1,4 +1,4 @@
-use Rattle.wire_script.specs.{lines_left, script_lines}
+use Rattle.script_lines.specs.{lines_left, script_lines}
 use Rattle.test_script.proofs.Parsing.{SoFar}
 use Rattle.test_script.proofs.script.Script.parse.Given as goal
 

@@ -1,0 +1,4 @@
+pub mod Cuts
+pub mod Endings
+pub mod Lemmas
+pub mod Numerals

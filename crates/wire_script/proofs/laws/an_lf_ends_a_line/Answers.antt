@@ -1,8 +1,0 @@
-use Rattle.wire_script.proofs.Parts.{line_ended, line_last}
-use Rattle.wire_script.proofs.laws.an_lf_ends_a_line.Goals as goal
-
-pub returns-clause-ended : goal.returns-clause-ended
-returns-clause-ended c = line_ended
-
-pub returns-clause-last : goal.returns-clause-last
-returns-clause-last c = line_last
