@@ -4,9 +4,9 @@ use Rattle.std.specs.Prelude.{IfErr, IfOk, IfSome, OnOk, is_some}
 use Rattle.bson_json_read.specs.{Left}
 use Rattle.engines.specs.declared.bson.TextStop.{TextStop}
 use Rattle.engines.specs.declared.bson.TextStop.TheVariants.{Fault, Refused}
-use Rattle.engines.specs.declared.run.RunEnd.{RunEnd}
+use Rattle.command_run.specs.declared.run.RunEnd.{RunEnd}
 use Rattle.engines.specs.BsonOf.{BsonText, EndsAt, StopsAt, WritesTexts, bytes_of_each}
-use Rattle.engines.specs.{AppendsText, is_done, is_fault}
+use Rattle.command_run.specs.{AppendsText, is_done, is_fault}
 
 -- the end that tells what `bson` returned
 abbrev pub Tells : Result (Option TextStop) RunEnd → RunEnd → Type 0

@@ -4,9 +4,9 @@ use Rattle.clap.specs.Words.{IsAmong, Kinds, Text}
 use Rattle.clap.specs.declared.error.kind.ErrorKind.{ErrorKind}
 use Rattle.clap.specs.declared.error.kind.ErrorKind.TheVariants as kind
 use Rattle.command_words.specs.{words_status}
-use Rattle.engines.specs.declared.run.RunEnd.{RunEnd}
-use Rattle.engines.specs.declared.run.RunEnd.TheVariants.{Good, Fault, Unread, InOut}
-use Rattle.engines.specs.declared.run.RunEnd.TheVariants.{OutOfMemory}
+use Rattle.command_run.specs.declared.run.RunEnd.{RunEnd}
+use Rattle.command_run.specs.declared.run.RunEnd.TheVariants.{Good, Fault, Unread, InOut}
+use Rattle.command_run.specs.declared.run.RunEnd.TheVariants.{OutOfMemory}
 use Rattle.bsonwire.specs.declared.choice.Choice.{Choice}
 use Rattle.bsonwire.specs.declared.choice.Choice.TheVariants.{Loop, Over, Proxy, Replay}
 use Rattle.bsonwire.specs.Choices.{IsChosen, words_fault}

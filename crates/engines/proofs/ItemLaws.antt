@@ -4,8 +4,8 @@ use Rattle.std.specs.List.{concat}
 use Rattle.std.proofs.lemmas.List.{append_cancel_left}
 use Rattle.bson_elem.specs.Spelling.{IsBytes}
 use Rattle.bson_elem.proofs.Lemmas.{IsBytes-after}
+use Rattle.command_run.specs.{is_there, or_nothing}
 use Rattle.wire_msg.proofs.Lemmas.{IsBytes-front}
-use Rattle.engines.specs.Output.{is_there, or_nothing}
 use Rattle.engines.specs.Items.{AreItems, AreTextsOf, IsLastItem, ItemKind, ItemsText, are_there}
 use Rattle.engines.proofs.ItemReadings.{IsKind}
 

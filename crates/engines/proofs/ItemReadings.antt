@@ -8,11 +8,11 @@ use Rattle.std.specs.List.{concat}
 use Rattle.std.proofs.lemmas.List.Folds.{concat-append}
 use Rattle.std.specs.Io.KnownBytes.{Appends, Keeps}
 use Rattle.std.proofs.KnownBytes.{Appends-kept, Appends-nil, Appends-trans}
+use Rattle.command_run.specs.{is_there, or_nothing}
 use Rattle.engines.specs.declared.input_fault.InputFault.{InputFault}
 use Rattle.engines.specs.declared.walk.Stop.{Stop}
 use Rattle.engines.specs.declared.walk.Stop.TheVariants as stop
 use Rattle.engines.specs.InputFault.{input_fault_line}
-use Rattle.engines.specs.Output.{is_there, or_nothing}
 use Rattle.engines.specs.ItemWalk.{EndAt, GoesOverItems, IsStoppedAt, ItemReading, ItemWalk, ItemsWritten, StandAt, item_tells}
 use Rattle.engines.specs.Items.{AreItems, AreTextsOf, FirstItems, HaveItems, IsLastItem, ItemKind, ItemsText, are_there}
 use Rattle.engines.specs.Walk.{IsAtFault, IsBetween, Walks}

@@ -2,17 +2,17 @@
 use Rattle.std.proofs.Common.{◌≡◌, ◌⊎◌, inl, inr, ◌++◌, [], ℕ, Bool, List, Option, None, Some, IfSome, Result, Ok, Err, IfOk, true, take, refl, sym, ap, subst, ◌∙◌, append-nil}
 use Rattle.std.specs.Io.KnownBytes.{Appends, Consumes, IsAtEnd, Keeps, append_known}
 use Rattle.std.proofs.KnownBytes.{Appends-kept, Appends-nil, Appends-trans, Consumes-kept, Consumes-nil, Consumes-trans, Consumes-whole}
+use Rattle.command_run.specs.{AppendsText, IsCutShort, is_done, is_fault}
 use Rattle.engines.specs.declared.input_fault.InputFault.{InputFault}
 use Rattle.engines.specs.declared.pieces.Ending.{Ending}
 use Rattle.engines.specs.declared.pieces.Ending.TheVariants.{Whole, Cut}
-use Rattle.engines.specs.declared.run.RunEnd.{RunEnd}
-use Rattle.engines.specs.declared.run.RunEnd.TheVariants.{Good, Fault, Unread, InOut, OutOfMemory}
+use Rattle.command_run.specs.declared.run.RunEnd.{RunEnd}
+use Rattle.command_run.specs.declared.run.RunEnd.TheVariants.{Good, Fault, Unread, InOut, OutOfMemory}
 use Rattle.engines.specs.declared.walk.Stop.{Stop}
 use Rattle.engines.specs.declared.walk.Stop.TheVariants as stop
 use Rattle.engines.specs.Input.{bytes_of, hex_fault}
 use Rattle.engines.specs.InputFault.{line_of}
-use Rattle.engines.specs.Output.{AppendsOne, AppendsText, IsFirstOf, OrNone, WritesRead}
-use Rattle.engines.specs.Run.{IsCutShort, is_done, is_fault}
+use Rattle.engines.specs.Output.{AppendsOne, IsFirstOf, OrNone, WritesRead}
 use Rattle.engines.specs.Source.{given}
 use Rattle.engines.specs.Walk.{Ends, IsBetween, IsEnding, IsFinish, Tells, Walks}
 

@@ -8,15 +8,15 @@ use Rattle.bson_stream.specs.declared.gap.Gap.{Gap}
 use Rattle.bson_stream.specs.{IsFound, IsSettled, MayFollow, Part, Salvaging, SoFar, a_document, a_gap}
 use Rattle.bson_stream.specs.Salvage.{no_more}
 use Rattle.bson_stream.proofs.Lemmas.{all_told, ended_now, told_first, told_so_far}
+use Rattle.command_run.specs.{AppendsText, IsCutShort, is_done, is_fault}
 use Rattle.engines.specs.declared.documents.Written.{Written}
 use Rattle.engines.specs.declared.documents.Written.TheVariants as written
-use Rattle.engines.specs.declared.run.RunEnd.{RunEnd}
-use Rattle.engines.specs.declared.run.RunEnd.TheVariants.{Good, Fault, Unread, InOut}
-use Rattle.engines.specs.declared.run.RunEnd.TheVariants as run
+use Rattle.command_run.specs.declared.run.RunEnd.{RunEnd}
+use Rattle.command_run.specs.declared.run.RunEnd.TheVariants.{Good, Fault, Unread, InOut}
+use Rattle.command_run.specs.declared.run.RunEnd.TheVariants as run
 use Rattle.engines.specs.Documents.{TextRule}
 use Rattle.engines.specs.DocumentWalk.{IsWritten}
-use Rattle.engines.specs.Output.{AppendsOne, AppendsText, WritesRead}
-use Rattle.engines.specs.Run.{IsCutShort, is_done, is_fault}
+use Rattle.engines.specs.Output.{AppendsOne, WritesRead}
 use Rattle.engines.specs.Salvaged.{ArePartTexts, FirstSalvaged, IsPartText, SalvageText, SalvagedSoFar, gap_text}
 use Rattle.engines.specs.SalvageWalk.{Manner, Passed, SalvageEnds, Wrote, WroteFirst, end_of_parts}
 

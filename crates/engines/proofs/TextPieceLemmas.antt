@@ -13,8 +13,8 @@ use Rattle.bson_json_read.specs.Sequences.{GivesBytes, Left, ReadsTo, next_in}
 use Rattle.bson_json_read.proofs.Lemmas.{stands_further, stands_in}
 use Rattle.engines.specs.declared.bson.TextStop.{TextStop}
 use Rattle.engines.specs.declared.bson.TextStop.TheVariants.{Fault, Refused}
-use Rattle.engines.specs.declared.run.RunEnd.{RunEnd}
-use Rattle.engines.specs.declared.run.RunEnd.TheVariants.{InOut, OutOfMemory}
+use Rattle.command_run.specs.declared.run.RunEnd.{RunEnd}
+use Rattle.command_run.specs.declared.run.RunEnd.TheVariants.{InOut, OutOfMemory}
 use Rattle.engines.specs.declared.texts.Passed.{Passed}
 use Rattle.engines.specs.declared.texts.Passed.TheVariants.{Over, Wanted}
 use Rattle.engines.specs.BsonOf.{AllBson, EndsAt, FirstBson, IsPlaced, StopsAt, WritesTexts, bytes_of_each}

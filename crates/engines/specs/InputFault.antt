@@ -2,10 +2,10 @@
 use Rattle.std.specs.Prelude.{ℕ, ◌+◌, List, ◌++◌, codes, Option, None, Some}
 use Rattle.bson_elem.specs.declared.fault.BsonFault.{BsonFault}
 use Rattle.bson_elem.specs.{bson_fault_text}
+use Rattle.command_run.specs.{fault_line}
 use Rattle.wire_record.specs.declared.fault.RecordCause.{RecordCause}
 use Rattle.wire_record.specs.{record_fault_text}
 use Rattle.wire_text.specs.{msg_fault_line}
-use Rattle.engines.specs.FaultLine.{fault_line}
 use Rattle.engines.specs.declared.input_fault.InputFault.{InputFault}
 use Rattle.engines.specs.declared.input_fault.InputFault.TheVariants.{Hex, Bson, TooLarge, Msg}
 use Rattle.engines.specs.declared.input_fault.InputFault.TheVariants.{EndedInside, Record}

@@ -3,7 +3,8 @@
 use Rattle.std.specs.Prelude.{◌≡◌, ◌⊎◌, ℕ, ◌+◌, List, [], ◌∷◌, ◌++◌, length, Bool, true, false, ⊤}
 use Rattle.std.specs.Prelude.{Option, None, Some}
 use Rattle.std.specs.List.{concat}
-use Rattle.engines.specs.Output.{TextOf, is_there, or_nothing}
+use Rattle.command_run.specs.{is_there, or_nothing}
+use Rattle.engines.specs.Output.{TextOf}
 
 -- A kind of items: which bytes are one; of which bytes more decide whether they begin with one; the
 -- line of an input that ends inside the one that begins at an offset; which bytes, of which the

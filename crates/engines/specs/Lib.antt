@@ -1,7 +1,4 @@
-pub mod FaultLine
 pub mod Dump
-pub mod Buffered
-pub mod Run
 pub mod Input
 pub mod Output
 pub mod InputFault
@@ -42,8 +39,7 @@ pub use Rattle.engines.specs.Json.{JsonText, MayBeJson}
 pub use Rattle.engines.specs.Loopback.{AppendsUpTo, HaveRun, HaveTold, loop_text}
 pub use Rattle.engines.specs.Msg.{AllMessages, FirstMessages, MsgText}
 pub use Rattle.engines.specs.OrRecords.{AllOrRecords, FirstOrRecords, TextOrRecords, as_messages}
-pub use Rattle.engines.specs.Output.{AppendsOne, AppendsText, IsAllOf, IsFirstOf, IsOutput, TextOf}
+pub use Rattle.engines.specs.Output.{AppendsOne, IsAllOf, IsFirstOf, IsOutput, TextOf}
 pub use Rattle.engines.specs.Output.{WritesRead}
 pub use Rattle.engines.specs.Play.{ScriptText}
-pub use Rattle.engines.specs.Run.{end_of_error, is_done, is_fault}
 pub use Rattle.engines.specs.Salvaged.{FirstSalvaged, SalvageText, SalvagedSoFar}

@@ -36,28 +36,11 @@ OrNone First (Some place) bytes texts = texts ≡ []
 abbrev pub IsFirstOf : (List ℕ → List ℕ → Type 0) → Bool → List ℕ → List ℕ → Type 0
 IsFirstOf First hex input = OrNone First (hex_fault hex input) (bytes_of hex input)
 
--- ---- parts of texts
-
--- a line, or nothing
-abbrev pub or_nothing : Option (List ℕ) → List ℕ
-or_nothing None = []
-or_nothing (Some line) = line
-
--- whether there is a line
-abbrev pub is_there : Option (List ℕ) → Bool
-is_there None = false
-is_there (Some line) = true
-
 -- nothing follows the texts
 abbrev pub nothing : Bool → List ℕ
 nothing any = []
 
 -- ---- what was written
-
--- known bytes grow by a text, and fault says whether it is that of an input with a fault
-abbrev pub AppendsText : (List ℕ → Bool → Type 0) → Bool → Option (List ℕ) → Option (List ℕ)
-    → Type 0
-AppendsText IsText fault old new = (text : List ℕ) × IsText text fault × Appends old new text
 
 -- Known bytes grow by a text of this sort.
 abbrev pub AppendsOne : (List ℕ → Type 0) → Option (List ℕ) → Option (List ℕ) → Type 0

@@ -1,12 +1,12 @@
 -- What `play` writes, and how a run ends whose play stopped.
 use Rattle.std.specs.Prelude.{◌≡◌, ℕ, List, ◌++◌, Bool, Option, None, Some}
+use Rattle.command_run.specs.{is_there, or_nothing}
 use Rattle.wire_play.specs.{TextUpTo}
 use Rattle.wire_play.specs.declared.playing.PlayStop.{PlayStop}
 use Rattle.wire_play.specs.declared.playing.PlayStop.TheVariants.{Failed, OutOfMemory}
-use Rattle.engines.specs.declared.run.RunEnd.{RunEnd}
-use Rattle.engines.specs.declared.run.RunEnd.TheVariants as run
+use Rattle.command_run.specs.declared.run.RunEnd.{RunEnd}
+use Rattle.command_run.specs.declared.run.RunEnd.TheVariants as run
 use Rattle.engines.specs.InputFault.{script_line}
-use Rattle.engines.specs.Output.{is_there, or_nothing}
 
 -- the last line, if a line of the script is at fault
 abbrev pub last_of : Option ℕ → Option (List ℕ)

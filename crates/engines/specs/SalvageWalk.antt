@@ -2,9 +2,9 @@
 use Rattle.std.specs.Prelude.{◌≡◌, ℕ, List, ◌++◌, Bool, true, false, Option}
 use Rattle.std.specs.Io.KnownBytes.{Appends, Consumes, IsAtEnd}
 use Rattle.bson_stream.specs.{IsSettled, MayFollow, Part, Salvaging, SoFar}
-use Rattle.engines.specs.declared.run.RunEnd.{RunEnd}
-use Rattle.engines.specs.declared.run.RunEnd.TheVariants.{Good, Fault, Unread, InOut}
-use Rattle.engines.specs.declared.run.RunEnd.TheVariants as run
+use Rattle.command_run.specs.declared.run.RunEnd.{RunEnd}
+use Rattle.command_run.specs.declared.run.RunEnd.TheVariants.{Good, Fault, Unread, InOut}
+use Rattle.command_run.specs.declared.run.RunEnd.TheVariants as run
 use Rattle.engines.specs.Documents.{TextRule}
 use Rattle.engines.specs.Salvaged.{ArePartTexts, FirstSalvaged, SalvageText, SalvagedSoFar}
 

@@ -3,8 +3,8 @@ use Rattle.std.specs.Prelude.{ℕ, List, ◌++◌, true, false, Option, None, So
 use Rattle.std.specs.Io.KnownBytes.{Appends, Consumes, Keeps}
 use Rattle.engines.specs.declared.pieces.Ending.{Ending}
 use Rattle.engines.specs.declared.pieces.Ending.TheVariants as ending
-use Rattle.engines.specs.declared.run.RunEnd.{RunEnd}
-use Rattle.engines.specs.declared.run.RunEnd.TheVariants as run
+use Rattle.command_run.specs.declared.run.RunEnd.{RunEnd}
+use Rattle.command_run.specs.declared.run.RunEnd.TheVariants as run
 use Rattle.engines.specs.declared.walk.Stop.{Stop}
 use Rattle.engines.specs.declared.walk.Stop.TheVariants as stop
 use Rattle.engines.specs.InputFault.{input_fault_line, line_of}

@@ -2,18 +2,18 @@
 
 ghost use Rattle.std.specs.Prelude.{◌≡◌, IfSome, true};
 ghost use Rattle.std.specs.Io.KnownBytes.{IsAtEnd};
+ghost use Rattle.command_run.specs.{AppendsText, is_done, is_fault};
 ghost use Rattle.engines.specs.Any.{AllFrames, AnyText, FirstFrames};
 ghost use Rattle.engines.specs.OrRecords.{AllOrRecords, FirstOrRecords, TextOrRecords};
-ghost use Rattle.engines.specs.Output.{AppendsOne, AppendsText, IsAllOf, IsFirstOf, IsOutput};
+ghost use Rattle.engines.specs.Output.{AppendsOne, IsAllOf, IsFirstOf, IsOutput};
 ghost use Rattle.engines.specs.Output.{WritesRead};
-ghost use Rattle.engines.specs.Run.{is_done, is_fault};
 
 use crate::frames::Frames;
 use crate::or_records::OrRecords;
 use crate::pieces::run_walk;
 use crate::record_text::RecordForm;
 use crate::records::Records;
-use crate::run::RunEnd;
+use command_run::RunEnd;
 use std::alloc::Global;
 use std::io::{Read, Write};
 

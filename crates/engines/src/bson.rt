@@ -4,18 +4,16 @@ ghost use Rattle.std.specs.Prelude.{◌≡◌, ◌≢◌, ◌⊎◌, ◌+◌, �
 ghost use Rattle.std.specs.Prelude.{IfSome, List, OnOk, Option, false, length, true, ℕ};
 ghost use Rattle.std.specs.Io.KnownBytes.{Consumes, IsAtEnd, Keeps};
 ghost use Rattle.bson_json_read.specs.{MayFollow};
+ghost use Rattle.command_run.specs.{IsCutShort, buffered_contents, is_done};
 ghost use Rattle.engines.specs.BsonOf.{AllBson, FirstBson, IsPlaced, StopsAt, WritesTexts};
-ghost use Rattle.engines.specs.Buffered.{buffered_contents};
 ghost use Rattle.engines.specs.Output.{AppendsOne, WritesRead};
-ghost use Rattle.engines.specs.Run.{IsCutShort, is_done};
 ghost use Rattle.engines.specs.TextPieces.{HaveRead, IsBegun, IsPassed};
 
-use crate::buffered::Buffered;
-use crate::run::{BUFFER, RunEnd};
 use crate::source::{PIECE, read_piece, read_rest};
 use crate::texts::{Passed, Texts};
 use bson_doc::DocRefusal;
 use bson_json_read::TextFault;
+use command_run::{BUFFER, Buffered, RunEnd};
 use core::mem::replace_with;
 use std::alloc::Global;
 use std::fmt;

@@ -3,20 +3,20 @@
 ghost use Rattle.std.specs.Prelude.{◌≡◌, ◌⊎◌, ◌≤◌, ◌<◌, ◌^◌, IfOk, IfSome, None, Some, false};
 ghost use Rattle.std.specs.Prelude.{if◌then◌else◌, length, nat_lt, true};
 ghost use Rattle.std.specs.Io.KnownBytes.{IsAtEnd};
+ghost use Rattle.command_run.specs.{AppendsText, is_done, is_fault};
 ghost use Rattle.engines.specs.Canon.{CanonText, behind_forms, canon_of, in_form};
 ghost use Rattle.engines.specs.Documents.{AppendsFirst, WritesAll, told_by};
-ghost use Rattle.engines.specs.Output.{AppendsOne, AppendsText, IsOutput, WritesRead};
-ghost use Rattle.engines.specs.Run.{is_done, is_fault};
+ghost use Rattle.engines.specs.Output.{AppendsOne, IsOutput, WritesRead};
 ghost use Rattle.engines.specs.Salvaged.{FirstSalvaged, SalvageText, SalvagedSoFar};
 ghost use Rattle.engines.specs.DocumentWalk.{IsWritten};
 
 use crate::documents::{EachDocument, Written, run_documents};
-use crate::run::RunEnd;
 use crate::salvage::{SALVAGE_LIMIT, run_salvage};
 use bson_doc::{DocRefusal, renumbered};
 use bson_elem::MAX_LEN;
 use bson_raw::RawDocument;
 use bson_text::hex_to;
+use command_run::RunEnd;
 use std::alloc::Global;
 use std::io;
 use std::io::{Read, Write};

@@ -2,17 +2,17 @@
 
 ghost use Rattle.std.specs.Prelude.{◌≡◌, ◌⊎◌, IfOk, IfSome, OnOk, false, true};
 ghost use Rattle.std.specs.Io.KnownBytes.{Appends, IsAtEnd};
+ghost use Rattle.command_run.specs.{AppendsText, is_done, is_fault};
 ghost use Rattle.engines.specs.Check.{CheckText, check_of, form_word, sized_line};
 ghost use Rattle.engines.specs.Documents.{AppendsFirst, WritesAll, told_by};
-ghost use Rattle.engines.specs.Output.{AppendsOne, AppendsText, IsOutput, WritesRead, nothing};
-ghost use Rattle.engines.specs.Run.{is_done, is_fault};
+ghost use Rattle.engines.specs.Output.{AppendsOne, IsOutput, WritesRead, nothing};
 ghost use Rattle.engines.specs.Salvaged.{FirstSalvaged, SalvageText, SalvagedSoFar};
 
 use crate::documents::{EachDocument, Written, run_documents};
-use crate::run::RunEnd;
 use crate::salvage::{SALVAGE_LIMIT, run_salvage};
 use bson_raw::RawDocument;
 use bson_text::number_to;
+use command_run::RunEnd;
 use std::alloc::Global;
 use std::io;
 use std::io::{Read, Write};

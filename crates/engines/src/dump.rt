@@ -5,15 +5,15 @@ ghost use Rattle.std.specs.Prelude.{length, true};
 ghost use Rattle.std.specs.Io.KnownBytes.{Appends, IsAtEnd};
 ghost use Rattle.bson_elem.specs.{Spells, Tree};
 ghost use Rattle.bson_raw.specs.{document_bytes};
+ghost use Rattle.command_run.specs.{AppendsText, is_done, is_fault};
 ghost use Rattle.engines.specs.Documents.{AppendsFirst, WritesAll, told_at};
 ghost use Rattle.engines.specs.Dump.{DumpText, dump_of, dump_text};
-ghost use Rattle.engines.specs.Output.{AppendsText, IsOutput, nothing};
-ghost use Rattle.engines.specs.Run.{is_done, is_fault};
+ghost use Rattle.engines.specs.Output.{IsOutput, nothing};
 
 use crate::documents::{EachDocument, Written, run_documents};
-use crate::run::RunEnd;
 use bson_raw::RawDocument;
 use bson_text::{dump_to, dump_with_offsets};
+use command_run::RunEnd;
 use std::alloc::Global;
 use std::io;
 use std::io::{Read, Write};

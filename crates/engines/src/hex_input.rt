@@ -3,12 +3,12 @@
 ghost use Rattle.std.specs.Prelude.{[], ◌≡◌, ◌++◌, ◌+◌, ◌∷◌, ◌<◌, ◌^◌, IfErr, IfOk, IfSome};
 ghost use Rattle.std.specs.Prelude.{List, OnOk, length, ℕ};
 ghost use Rattle.std.specs.Io.KnownBytes.{Consumes, IsAtEnd};
+ghost use Rattle.command_run.specs.{IsCutShort};
 ghost use Rattle.engines.specs.Input.{IsDecoded, byte_behind, fault_of, half_behind, is_space};
 ghost use Rattle.engines.specs.Input.{packed};
-ghost use Rattle.engines.specs.Run.{IsCutShort};
 
-use crate::run::RunEnd;
 use crate::source::{PIECE, read_piece};
+use command_run::RunEnd;
 use std::alloc::{AllocError, Global};
 use std::io::Read;
 

@@ -4,8 +4,9 @@ ghost use Rattle.std.specs.Prelude.{OnOk};
 ghost use Rattle.std.specs.Io.KnownBytes.{Appends};
 ghost use Rattle.engines.specs.InputFault.{input_fault_line};
 
-use crate::fault_line::{write_bson_fault, write_fault, write_record_fault};
+use crate::fault_line::{write_bson_fault, write_record_fault};
 use bson_elem::BsonFault;
+use command_run::write_fault;
 use std::io;
 use std::io::Write;
 use wire_msg::MsgFault;

@@ -2,21 +2,21 @@
 
 ghost use Rattle.std.specs.Prelude.{◌≡◌, ◌⊎◌, IfOk, IfSome, OnOk, false, true};
 ghost use Rattle.std.specs.Io.KnownBytes.{Appends, IsAtEnd};
+ghost use Rattle.command_run.specs.{AppendsText, is_done, is_fault};
 ghost use Rattle.engines.specs.Documents.{AllTexts, FirstTexts};
 ghost use Rattle.engines.specs.Json.{JsonText, MayBeJson, behind_values, front_of, end_of_value};
 ghost use Rattle.engines.specs.OrRecords.{AllOrRecords, FirstOrRecords, TextOrRecords};
-ghost use Rattle.engines.specs.Output.{AppendsOne, AppendsText, IsAllOf, IsFirstOf, IsOutput};
+ghost use Rattle.engines.specs.Output.{AppendsOne, IsAllOf, IsFirstOf, IsOutput};
 ghost use Rattle.engines.specs.Output.{WritesRead};
-ghost use Rattle.engines.specs.Run.{is_done, is_fault};
 
 use crate::documents::{Documents, EachDocument, Written};
 use crate::or_records::OrRecords;
 use crate::pieces::run_walk;
 use crate::record_text::RecordForm;
 use crate::records::Records;
-use crate::run::RunEnd;
 use bson_json::{Mode, write_json};
 use bson_raw::RawDocument;
+use command_run::RunEnd;
 use std::alloc::Global;
 use std::io;
 use std::io::{Read, Write};

@@ -20,7 +20,6 @@
 
 mod any;
 mod bson;
-mod buffered;
 mod canon;
 mod check;
 mod documents;
@@ -40,7 +39,6 @@ mod pieces;
 mod play;
 mod record_text;
 mod records;
-mod run;
 mod salvage;
 mod source;
 mod texts;
@@ -52,10 +50,8 @@ pub use bson_json::Mode;
 pub use canon::{run_canon, run_canon_within, salvage_canon};
 pub use check::{run_check, salvage_check};
 pub use dump::run_dump;
-pub use fault_line::write_fault;
 pub use json::{Layout, run_json};
 pub use loopback::run_loop;
 pub use msg::{MessageForm, run_msg};
 pub use play::run_play;
 pub use record_text::RecordForm;
-pub use run::{Engine, RunEnd, end_of};

@@ -6,10 +6,10 @@ ghost use Rattle.std.specs.Prelude.{IsTrue, OnOk, Some, false, map, pos, slice_g
 ghost use Rattle.std.specs.Io.KnownBytes.{Appends};
 ghost use Rattle.bson_elem.specs.{Spells, Tree};
 ghost use Rattle.bson_raw.specs.{document_bytes};
+ghost use Rattle.command_run.specs.{is_done};
 ghost use Rattle.engines.specs.Calling.{AreComplete, call_body};
 ghost use Rattle.engines.specs.Loopback.{AreNew, GetsReply, IsEchoed, arrived, echo_does};
 ghost use Rattle.engines.specs.Loopback.{echo_stops, request_bytes};
-ghost use Rattle.engines.specs.Run.{is_done};
 ghost use Rattle.wire_channels.specs.{ClientAct, ServerAct};
 ghost use Rattle.wire_channels.specs.Owners.{Calls, Collects, SendsUp, TakesDown};
 ghost use Rattle.wire_end.specs.{EndRuns, ServerEndRuns};
@@ -19,9 +19,9 @@ ghost use Rattle.wire_peer.specs.{buf_content, log_of};
 ghost use Rattle.wire_peer.specs.declared.call_table.ReadyReply.{ReadyReply};
 ghost use Rattle.wire_peer.specs.declared.calls.CallKind.TheVariants.{Plain};
 
-use crate::run::RunEnd;
 use bson_doc::{Bson, RawDocumentBuf};
 use bson_raw::RawDocument;
+use command_run::RunEnd;
 use std::alloc::{AllocError, Global};
 use wire_end::{CallRecord, ClientEnd, EndFault, Next, NextRequest, RequestFault, ServerEnd};
 use wire_msg::{MAX_MESSAGE_LEN, Payload, PayloadBuf};

@@ -2,16 +2,16 @@
 
 ghost use Rattle.std.specs.Prelude.{◌≡◌, ◌≢◌, ◌+◌, ℕ, List, [], Err, IfErr, IfOk, OnOk, false, pos};
 ghost use Rattle.std.specs.Io.KnownBytes.{Appends};
+ghost use Rattle.command_run.specs.{is_done};
 ghost use Rattle.engines.specs.Calling.{AreComplete};
 ghost use Rattle.engines.specs.Loopback.{AppendsUpTo, HaveMade, HaveRun, HaveTold, call_line};
 ghost use Rattle.engines.specs.Loopback.{echo_does, echo_stops, last_line, loop_text};
 ghost use Rattle.engines.specs.Loopback.{requests_bytes};
-ghost use Rattle.engines.specs.Run.{is_done};
 ghost use Rattle.wire_channels.specs.{ClientAct, ServerAct};
 ghost use Rattle.wire_end.specs.{EndRuns, ServerEndRuns};
 
 use crate::loop_call::Loopback;
-use crate::run::{RunEnd, end_of};
+use command_run::{RunEnd, end_of};
 use std::alloc::Global;
 use std::io;
 use std::io::{ErrorKind, Write};

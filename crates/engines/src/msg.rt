@@ -2,12 +2,12 @@
 
 ghost use Rattle.std.specs.Prelude.{◌≡◌, ◌⊎◌, IfOk, IfSome, false, true};
 ghost use Rattle.std.specs.Io.KnownBytes.{IsAtEnd, Keeps};
+ghost use Rattle.command_run.specs.{AppendsText, is_done, is_fault};
 ghost use Rattle.engines.specs.Msg.{AllMessages, FirstMessages, MsgText};
 ghost use Rattle.engines.specs.OrRecords.{AllOrRecords, FirstOrRecords, TextOrRecords};
 ghost use Rattle.engines.specs.OrRecords.{as_messages};
-ghost use Rattle.engines.specs.Output.{AppendsOne, AppendsText, IsAllOf, IsFirstOf, IsOutput};
+ghost use Rattle.engines.specs.Output.{AppendsOne, IsAllOf, IsFirstOf, IsOutput};
 ghost use Rattle.engines.specs.Output.{WritesRead};
-ghost use Rattle.engines.specs.Run.{is_done, is_fault};
 
 use crate::json::Layout;
 use crate::messages::Messages;
@@ -15,8 +15,8 @@ use crate::or_records::OrRecords;
 use crate::pieces::run_walk;
 use crate::record_text::RecordForm;
 use crate::records::Records;
-use crate::run::RunEnd;
 use bson_json::Mode;
+use command_run::RunEnd;
 use std::alloc::Global;
 use std::io::{Read, Write};
 

@@ -7,18 +7,16 @@
 ghost use Rattle.std.specs.Prelude.{◌≡◌, ◌⊎◌, ◌<◌, ◌++◌, IfOk, IfSome, List, Ok, OnOk};
 ghost use Rattle.std.specs.Prelude.{Option, [], length, true, ℕ};
 ghost use Rattle.std.specs.Io.KnownBytes.{Consumes, IsAtEnd, Keeps, append_known};
-ghost use Rattle.engines.specs.Buffered.{buffered_contents};
-ghost use Rattle.engines.specs.Output.{AppendsOne, AppendsText, IsAllOf, IsFirstOf, IsOutput};
+ghost use Rattle.command_run.specs.{AppendsText, IsCutShort, buffered_contents, is_done, is_fault};
+ghost use Rattle.engines.specs.Output.{AppendsOne, IsAllOf, IsFirstOf, IsOutput};
 ghost use Rattle.engines.specs.Output.{WritesRead};
-ghost use Rattle.engines.specs.Run.{IsCutShort, is_done, is_fault};
 ghost use Rattle.engines.specs.Walk.{Ends, IsBetween, IsEnding, IsFinish, Tells, Walks};
 
-use crate::buffered::Buffered;
 use crate::hex_input::read_hex;
 use crate::input_fault::InputFault;
-use crate::run::{BUFFER, RunEnd};
 use crate::source::{PIECE, read_piece, read_rest};
 use crate::walk::{Stop, Walk};
+use command_run::{BUFFER, Buffered, RunEnd};
 use core::mem::replace_with;
 use std::alloc::Global;
 use std::io;

@@ -2,14 +2,13 @@
 
 ghost use Rattle.std.specs.Prelude.{◌≡◌, ◌≢◌, ◌⊎◌, IfSome, true};
 ghost use Rattle.std.specs.Io.KnownBytes.{IsAtEnd, Keeps};
+ghost use Rattle.command_run.specs.{AppendsText, is_done, is_fault};
 ghost use Rattle.engines.specs.InputFault.{line_of};
-ghost use Rattle.engines.specs.Output.{AppendsText};
 ghost use Rattle.engines.specs.Play.{ScriptText, end_of_stop, last_of};
-ghost use Rattle.engines.specs.Run.{is_done, is_fault};
 
 use crate::documents::write_last;
 use crate::input_fault::InputFault;
-use crate::run::{Engine, RunEnd, run};
+use command_run::{Engine, RunEnd, run};
 use std::alloc::Global;
 use std::io::{Read, Write};
 use wire_play::PlayStop;

@@ -3,10 +3,10 @@
 ghost use Rattle.std.specs.Prelude.{◌≡◌, ◌+◌, ◌≤◌, ◌<◌, ◌^◌, IfErr, IfOk, List, None, Ok, OnErr};
 ghost use Rattle.std.specs.Prelude.{OnOk, length, take, ℕ};
 ghost use Rattle.std.specs.Io.KnownBytes.{Consumes, IsAtEnd, Keeps};
-ghost use Rattle.engines.specs.Run.{IsCutShort};
+ghost use Rattle.command_run.specs.{IsCutShort};
 ghost use Rattle.engines.specs.Source.{given};
 
-use crate::run::{RunEnd, end_of_read};
+use command_run::{RunEnd, end_of_read};
 use std::io::{ErrorKind, Read};
 
 /// The most bytes that are read at once.

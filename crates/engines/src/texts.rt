@@ -3,12 +3,12 @@
 ghost use Rattle.std.specs.Prelude.{◌≡◌, ◌≢◌, ◌+◌, ◌<◌, ◌≤◌, ◌^◌, Err, IfErr, IfOk, List, OnOk};
 ghost use Rattle.std.specs.Prelude.{Option, false, length, ℕ};
 ghost use Rattle.std.specs.Io.KnownBytes.{Appends};
-ghost use Rattle.engines.specs.Run.{is_done};
+ghost use Rattle.command_run.specs.{is_done};
 ghost use Rattle.engines.specs.TextPieces.{HaveRead, IsBegun, IsPassed};
 
 use crate::bson::TextStop;
-use crate::run::RunEnd;
 use bson_json_read::{Cause, NextBytes, TextReader};
+use command_run::RunEnd;
 use std::alloc::Global;
 use std::io::Write;
 

@@ -2,8 +2,8 @@
 
 ghost use Rattle.std.specs.Prelude.{[], ◌++◌, IfOk, List, OnOk, Option, ℕ};
 ghost use Rattle.std.specs.Io.KnownBytes.{Appends};
+ghost use Rattle.command_run.specs.{is_there, or_nothing};
 ghost use Rattle.engines.specs.InputFault.{line_of};
-ghost use Rattle.engines.specs.Output.{is_there, or_nothing};
 ghost use Rattle.engines.specs.Walk.{IsBetween, Tells, Walks};
 
 use crate::input_fault::InputFault;

@@ -1,7 +1,8 @@
 //! What no contract says of `msg --any`: that a failed write ends the run.
 
-use crate::writers::Counter;
-use engines::{RunEnd, run_any};
+use command_run::RunEnd;
+use command_run_tests::writers::Counter;
+use engines::run_any;
 
 #[test]
 fn a_failed_write_ends_a_run_of_any_kind(rt: HostRuntime) {

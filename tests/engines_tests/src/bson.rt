@@ -2,9 +2,10 @@
 //! whole, however they are cut into pieces.
 
 use crate::pieces::Steps;
-use crate::readers::Broken;
-use crate::writers::Counter;
-use engines::{RunEnd, run_bson};
+use command_run::RunEnd;
+use command_run_tests::readers::Broken;
+use command_run_tests::writers::Counter;
+use engines::run_bson;
 use std::alloc::Global;
 
 #[test]

@@ -1,7 +1,8 @@
 //! That a run over TCP is good, and how a run ends whose writer fails.
 
-use crate::writers::Counter;
-use engines::{RunEnd, run_loop};
+use command_run::RunEnd;
+use command_run_tests::writers::Counter;
+use engines::run_loop;
 
 /// The text of two calls.
 const TWO_CALLS: &str = "call 0 id 1 done\ncall 1 id 2 done\nloop 2 done\n";

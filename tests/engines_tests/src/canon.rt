@@ -1,8 +1,9 @@
 //! What no contract says of `canon`: that a document whose canonical form is too large is told, and that writes which fail end the run.
 
-use crate::writers::Counter;
 use bson_elem::MAX_LEN;
-use engines::{RunEnd, run_canon, run_canon_within};
+use command_run::RunEnd;
+use command_run_tests::writers::Counter;
+use engines::{run_canon, run_canon_within};
 use std::alloc::Global;
 
 /// Two documents: one of 5 bytes, and one whose canonical form has 27.

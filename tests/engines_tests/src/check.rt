@@ -1,7 +1,8 @@
 //! What no contract says of `check`: that a failed write ends the run.
 
-use crate::writers::Counter;
-use engines::{RunEnd, run_check};
+use command_run::RunEnd;
+use command_run_tests::writers::Counter;
+use engines::run_check;
 
 #[test]
 fn a_failed_write_ends_the_run(rt: HostRuntime) {

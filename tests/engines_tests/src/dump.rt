@@ -1,9 +1,10 @@
 //! What no contract says of `dump`: that reads, writes and allocations which fail end the run as they should, and that the writer is
 //! flushed.
 
-use crate::readers::Broken;
-use crate::writers::Counter;
-use engines::{RunEnd, run_dump};
+use command_run::RunEnd;
+use command_run_tests::readers::Broken;
+use command_run_tests::writers::Counter;
+use engines::run_dump;
 use std::alloc::{AllocError, Global};
 use std::io;
 use std::io::{Read, Write};

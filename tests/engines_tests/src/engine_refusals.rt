@@ -2,8 +2,9 @@
 //! that it is refused to. `scripts/checks/try-refusals` runs these tests with each of their allocations refused in turn, and the other
 //! commands with the program.
 
-use crate::writers::Counter;
-use engines::{RunEnd, run_canon_within, run_play};
+use command_run::RunEnd;
+use command_run_tests::writers::Counter;
+use engines::{run_canon_within, run_play};
 use std::alloc::Global;
 use wire_play_tests::kept::{SCRIPT, empty, ends_refused, is_begun, is_played};
 

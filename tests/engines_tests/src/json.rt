@@ -1,7 +1,8 @@
 //! What no contract says of `json`: that writes which fail end the run.
 
-use crate::writers::Counter;
-use engines::{Layout, Mode, RunEnd, run_json};
+use command_run::RunEnd;
+use command_run_tests::writers::Counter;
+use engines::{Layout, Mode, run_json};
 use std::alloc::Global;
 
 /// Returns how a run ends over one document, whose writer fails at its first call.

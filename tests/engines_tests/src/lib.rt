@@ -1,7 +1,7 @@
 //! Tests of the engines, by what no contract says: readers, writers and networks that fail, and refused allocations. The texts that a
 //! run writes are tried by the program that is built, in `scripts/checks/try-tables` and `scripts/checks/try-json`.
 //!
-//! Stands on engines and wire_play_tests. Read first: `dump`.
+//! Stands on engines, command_run_tests and wire_play_tests. Read first: `dump`.
 #![tactic(auto)]
 
 #[cfg(test)]
@@ -19,8 +19,6 @@ mod dump;
 #[cfg(test)]
 mod engine_refusals;
 #[cfg(test)]
-mod fault_line;
-#[cfg(test)]
 mod json;
 #[cfg(test)]
 mod msg;
@@ -31,10 +29,6 @@ mod pieces;
 #[cfg(test)]
 mod play;
 #[cfg(test)]
-mod readers;
-#[cfg(test)]
 mod records;
 #[cfg(test)]
 mod salvage;
-#[cfg(test)]
-mod writers;

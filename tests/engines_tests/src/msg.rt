@@ -1,7 +1,8 @@
 //! What no contract says of `msg`: that a failed write ends the run.
 
-use crate::writers::Counter;
-use engines::{MessageForm, RunEnd, run_msg};
+use command_run::RunEnd;
+use command_run_tests::writers::Counter;
+use engines::{MessageForm, run_msg};
 
 #[test]
 fn a_failed_write_ends_the_run(rt: HostRuntime) {

@@ -1,7 +1,8 @@
 //! How a run ends over a network that fails, or carries what no other end of a connection sent.
 
-use crate::writers::Counter;
-use engines::{RunEnd, run_loop};
+use command_run::RunEnd;
+use command_run_tests::writers::Counter;
+use engines::run_loop;
 use std::alloc::Global;
 use std::io;
 use std::io::{ErrorKind, Read, Write};

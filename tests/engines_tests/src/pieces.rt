@@ -1,7 +1,8 @@
 //! That documents and messages come out of an input whole, however this is cut into pieces, and what is written where reading or
 //! writing fails. Inputs longer than a piece are tried in `scripts/checks/try-tables`.
 
-use engines::{MessageForm, RunEnd, run_check, run_msg};
+use command_run::RunEnd;
+use engines::{MessageForm, run_check, run_msg};
 use std::alloc::Global;
 use std::io;
 use std::io::{Read, Write};

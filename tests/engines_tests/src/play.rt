@@ -1,8 +1,9 @@
 //! What no contract says of `play`: that reads and writes which fail end it. Its texts stand in wire_play_tests.
 
-use crate::readers::Broken;
-use crate::writers::Counter;
-use engines::{RunEnd, run_play};
+use command_run::RunEnd;
+use command_run_tests::readers::Broken;
+use command_run_tests::writers::Counter;
+use engines::run_play;
 use std::alloc::Global;
 
 #[test]

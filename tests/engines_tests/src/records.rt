@@ -2,8 +2,9 @@
 //! pieces, and that reads and writes which fail end the run.
 
 use crate::pieces::Steps;
-use crate::writers::Counter;
-use engines::{MessageForm, RunEnd, run_any, run_msg};
+use command_run::RunEnd;
+use command_run_tests::writers::Counter;
+use engines::{MessageForm, run_any, run_msg};
 use std::alloc::Global;
 
 /// A record of a message of opCode 2010, and two bytes more.

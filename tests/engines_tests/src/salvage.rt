@@ -1,8 +1,9 @@
 //! What no contract says of `check --salvage` and `canon --salvage`: that a failed read and a failed write end the run.
 
 use crate::pieces::Steps;
-use crate::writers::Counter;
-use engines::{RunEnd, salvage_canon, salvage_check};
+use command_run::RunEnd;
+use command_run_tests::writers::Counter;
+use engines::{salvage_canon, salvage_check};
 use std::alloc::Global;
 
 /// Returns true if `check` writes this text of a document, a gap and a document where read number `fails_at` fails, each of one byte.

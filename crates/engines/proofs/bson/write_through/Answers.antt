@@ -1,5 +1,5 @@
 use Rattle.std.proofs.Common.{sym}
-use Rattle.engines.specs.Buffered.{buffered_contents}
+use Rattle.command_run.specs.{buffered_contents}
 use Rattle.engines.proofs.TextPieceLemmas.{flushed_empty, flushed_memory, flushed_ok, read_kept}
 use Rattle.engines.proofs.bson.write_through.Goals as goal
 

@@ -1,11 +1,11 @@
 use Rattle.std.proofs.Common.{◌≡◌, subst, true}
 use Rattle.std.specs.Prelude.{IfSome}
+use Rattle.command_run.specs.{AppendsText, is_done, is_fault}
 use Rattle.engines.specs.declared.record_text.RecordForm.{RecordForm}
-use Rattle.engines.specs.declared.run.RunEnd.TheVariants.{OutOfMemory, Unread}
+use Rattle.command_run.specs.declared.run.RunEnd.TheVariants.{OutOfMemory, Unread}
 use Rattle.engines.specs.Msg.{AllMessages, FirstMessages, MsgText}
 use Rattle.engines.specs.OrRecords.{AllOrRecords, FirstOrRecords, TextOrRecords}
-use Rattle.engines.specs.Output.{AppendsOne, AppendsText, IsAllOf, IsFirstOf, IsOutput, WritesRead}
-use Rattle.engines.specs.Run.{is_done, is_fault}
+use Rattle.engines.specs.Output.{AppendsOne, IsAllOf, IsFirstOf, IsOutput, WritesRead}
 use Rattle.engines.proofs.WaitLemmas.{messages_wait}
 use Rattle.engines.proofs.msg.run_msg.Goals as goal
 

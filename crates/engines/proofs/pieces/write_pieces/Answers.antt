@@ -1,10 +1,10 @@
 use Rattle.std.proofs.Common.{◌≡◌, ◌⊎◌, None, Some, ap, subst, take, ◌++◌, ◌∙◌}
 use Rattle.std.specs.Io.KnownBytes.{append_known}
+use Rattle.command_run.specs.{IsCutShort}
 use Rattle.engines.specs.declared.input_fault.InputFault.{InputFault}
 use Rattle.engines.specs.declared.pieces.Ending.TheVariants.{Whole, Cut}
-use Rattle.engines.specs.declared.run.RunEnd.{RunEnd}
+use Rattle.command_run.specs.declared.run.RunEnd.{RunEnd}
 use Rattle.engines.specs.declared.walk.Stop.TheVariants as stop
-use Rattle.engines.specs.Run.{IsCutShort}
 use Rattle.engines.proofs.PieceLemmas.{begun, came, ends_cut, ends_gone, ends_short, ends_whole, walked}
 use Rattle.engines.proofs.pieces.write_pieces.Goals as goal
 

@@ -1,8 +1,8 @@
 use Rattle.std.proofs.Common.{◌≡◌, ◌++◌, ℕ, List, Bool, Option, Result, Ok, Err, IfOk, refl, subst}
 use Rattle.std.specs.Io.KnownBytes.{Appends}
 use Rattle.std.proofs.KnownBytes.{Appends-trans}
+use Rattle.command_run.specs.{AppendsText, is_there, or_nothing}
 use Rattle.wire_play.specs.{TextUpTo, Writes}
-use Rattle.engines.specs.Output.{AppendsText, is_there, or_nothing}
 use Rattle.engines.specs.Play.{ScriptText, last_of}
 use Rattle.engines.proofs.play.PlayEngine.write_text.Goals as goal
 

@@ -1,13 +1,13 @@
-//! The frame of a command that reads all of its input: writes through a buffer, and tells how that
-//! ended.
+//! How a run of a command ends, and the frame of one that reads all of its input.
 
 ghost use Rattle.std.specs.Prelude.{◌≡◌, ◌≢◌, ◌⊎◌, [], ℕ, Bool, List, IfErr, IfOk, IfSome, None};
 ghost use Rattle.std.specs.Prelude.{Err, OnOk, Ok, codes, true, false};
 ghost use Rattle.std.specs.Io.KnownBytes.{IsAtEnd, Keeps};
 ghost use Rattle.std.specs.IoError.{error_kind, raw_os_error};
-ghost use Rattle.engines.specs.Buffered.{buffered_contents};
-ghost use Rattle.engines.specs.Output.{AppendsText};
-ghost use Rattle.engines.specs.Run.{IsCutShort, end_of_error, end_of_reading, is_done, is_fault};
+ghost use Rattle.command_run.specs.Buffered.{buffered_contents};
+ghost use Rattle.command_run.specs.Output.{AppendsText};
+ghost use Rattle.command_run.specs.Run.{IsCutShort, end_of_error, end_of_reading, is_done};
+ghost use Rattle.command_run.specs.Run.{is_fault};
 
 use crate::buffered::Buffered;
 use core::mem::replace_with;
@@ -82,7 +82,7 @@ pub fn run<E: Engine, R: Read, W: Write>(
 }
 
 /// Reads the whole input. Errs with the end of the run.
-pub fn read_whole<R: Read>(alloc: Global, reader: &mut R) -> Result<Vec<u8>, RunEnd>
+fn read_whole<R: Read>(alloc: Global, reader: &mut R) -> Result<Vec<u8>, RunEnd>
     ensures bytes { IfOk result (λ v. IfSome (R.remaining reader.old) (λ all. v.items ≡ all)) }
     ensures read { OnOk result (IsAtEnd (R.remaining reader.new)) }
     ensures cut { IfErr result (λ end. is_done end ≡ false) }

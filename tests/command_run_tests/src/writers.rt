@@ -5,15 +5,15 @@ use std::io::Write;
 
 /// A writer that counts what it is given, and fails at its call number `fails_at`.
 #[derive(Drop)]
-pub(crate) struct Counter {
+pub struct Counter {
     fails_at: u64,
-    pub(crate) calls: u64,
-    pub(crate) flushes: u64,
-    pub(crate) taken: u64,
+    pub calls: u64,
+    pub flushes: u64,
+    pub taken: u64,
 }
 
 impl Counter {
-    pub(crate) fn failing_at(fails_at: u64) -> Counter {
+    pub fn failing_at(fails_at: u64) -> Counter {
         Counter {
             fails_at,
             calls: 0,

@@ -5,9 +5,9 @@ use std::io::Read;
 
 /// A reader that gives one byte and then fails, with a code of the system where there is one.
 #[derive(Drop)]
-pub(crate) struct Broken {
-    pub(crate) given: bool,
-    pub(crate) code: Option<i32>,
+pub struct Broken {
+    pub given: bool,
+    pub code: Option<i32>,
 }
 
 impl Read for Broken {

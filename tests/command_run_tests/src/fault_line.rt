@@ -1,6 +1,6 @@
 //! The line of a fault in the input.
 
-use engines::write_fault;
+use command_run::write_fault;
 use std::alloc::Global;
 
 /// Returns true if this line is written for the fault.

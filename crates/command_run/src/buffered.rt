@@ -4,7 +4,7 @@ ghost use Rattle.std.specs.Prelude.{◌≡◌, ◌<◌, ◌≤◌, [], IfOk, OnO
 ghost use Rattle.std.specs.Prelude.{vec_len};
 ghost use Rattle.std.specs.Io.{WritesAtMost};
 ghost use Rattle.std.specs.Io.KnownBytes.{Appends, Keeps, WriteAppends, append_known};
-ghost use Rattle.engines.specs.Buffered.{buffered_contents};
+ghost use Rattle.command_run.specs.Buffered.{buffered_contents};
 
 use std::io;
 use std::io::{ErrorKind, Write};
