@@ -14,8 +14,6 @@ pub mod OrRecordsLemmas
 pub mod WaitLemmas
 pub mod DocumentBegins
 pub mod RecordLaws
-pub mod Rounds
-pub mod LoopLemmas
 pub mod TextsRead
 pub mod TextPieceLemmas
 pub mod HexLemmas

@@ -23,8 +23,6 @@ pub mod Records
 pub mod RecordWalk
 pub mod OrRecords
 pub mod OrRecordsWalk
-pub mod Calling
-pub mod Loopback
 pub mod Play
 pub mod TextPieces
 -- the words that clauses of other crates cite
@@ -36,7 +34,6 @@ pub use Rattle.engines.specs.Documents.{AllTexts, AppendsFirst, FirstTexts, Text
 pub use Rattle.engines.specs.Documents.{told_at, told_by}
 pub use Rattle.engines.specs.Dump.{DumpText, dump_of}
 pub use Rattle.engines.specs.Json.{JsonText, MayBeJson}
-pub use Rattle.engines.specs.Loopback.{AppendsUpTo, HaveRun, HaveTold, loop_text}
 pub use Rattle.engines.specs.Msg.{AllMessages, FirstMessages, MsgText}
 pub use Rattle.engines.specs.OrRecords.{AllOrRecords, FirstOrRecords, TextOrRecords, as_messages}
 pub use Rattle.engines.specs.Output.{AppendsOne, IsAllOf, IsFirstOf, IsOutput, TextOf}

@@ -1,5 +1,5 @@
-//! The commands of the program `bsonwire`, each a function over a writer, and all but `loop` over a
-//! reader.
+//! The commands of the program `bsonwire` that read an input, each a function over a reader and a
+//! writer.
 //!
 //! `run_dump`, `run_check`, `run_canon` and `run_json` read documents piece by piece, `run_bson`
 //! texts, `run_msg` messages, and `run_any` messages of any opCode, and write as these come.
@@ -11,11 +11,10 @@
 //! which is read whole; the input of `run_bson` is Extended JSON, and that of `run_play` a script of
 //! events. A fault in the input is told by the last line of the text, and by `run_bson` in what it
 //! returns. `salvage_check` and `salvage_canon` go on behind a fault; the one tells each, at its gap,
-//! and the other none. `run_loop` reads nothing: it makes calls over a connection of the program
-//! with itself.
+//! and the other none.
 //!
-//! Stands on bson_json_read, bson_stream, wire_frame, wire_record, wire_stream, wire_end and
-//! wire_play. bsonwire and proxy stand on it. Read first: `walk`, `pieces`, `documents`, and then `dump`.
+//! Stands on command_run, bson_json_read, bson_stream, wire_record, wire_stream and wire_play.
+//! bsonwire stands on it. Read first: `walk`, `pieces`, `documents`, and then `dump`.
 #![tactic(auto)]
 
 mod any;
@@ -30,8 +29,6 @@ mod hex_input;
 mod input_fault;
 mod json;
 pub mod laws;
-mod loop_call;
-mod loopback;
 mod messages;
 mod msg;
 mod or_records;
@@ -51,7 +48,6 @@ pub use canon::{run_canon, run_canon_within, salvage_canon};
 pub use check::{run_check, salvage_check};
 pub use dump::run_dump;
 pub use json::{Layout, run_json};
-pub use loopback::run_loop;
 pub use msg::{MessageForm, run_msg};
 pub use play::run_play;
 pub use record_text::RecordForm;

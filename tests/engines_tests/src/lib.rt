@@ -1,4 +1,4 @@
-//! Tests of the engines, by what no contract says: readers, writers and networks that fail, and refused allocations. The texts that a
+//! Tests of the engines, by what no contract says: readers and writers that fail, and refused allocations. The texts that a
 //! run writes are tried by the program that is built, in `scripts/checks/try-tables` and `scripts/checks/try-json`.
 //!
 //! Stands on engines, command_run_tests and wire_play_tests. Read first: `dump`.
@@ -8,8 +8,6 @@
 mod any;
 #[cfg(test)]
 mod bson;
-#[cfg(test)]
-mod calls;
 #[cfg(test)]
 mod canon;
 #[cfg(test)]
@@ -22,8 +20,6 @@ mod engine_refusals;
 mod json;
 #[cfg(test)]
 mod msg;
-#[cfg(test)]
-mod networks;
 #[cfg(test)]
 mod pieces;
 #[cfg(test)]
