@@ -31,9 +31,10 @@ use Rattle.engines.specs.{AllBson, AllFrames, AllMessages, AllOrRecords, AllText
 use Rattle.engines.specs.{BsonText, CanonText, CheckText, DumpText, FirstBson, FirstFrames}
 use Rattle.engines.specs.{FirstMessages, FirstOrRecords, FirstSalvaged, FirstTexts, IsAllOf}
 use Rattle.engines.specs.{IsFirstOf, IsOutput, JsonText}
-use Rattle.engines.specs.{MayBeJson, MsgText, SalvageText, SalvagedSoFar, ScriptText}
+use Rattle.engines.specs.{MayBeJson, MsgText, SalvageText, SalvagedSoFar}
 use Rattle.engines.specs.{TextOrRecords, as_messages, canon_of, check_of, dump_of}
 use Rattle.engines.specs.{told_at, told_by}
+use Rattle.wire_play.specs.{ScriptText}
 
 -- ---- what the matches of a subcommand hold
 

@@ -18,8 +18,8 @@ use crate::progress::Progress;
 use command_run::{RunEnd, end_of};
 use command_words::{IN_OUT, MEMORY, USAGE};
 use engines::{
-    TextStop, run_any, run_bson, run_canon, run_check, run_dump, run_json, run_msg, run_play,
-    salvage_canon, salvage_check,
+    TextStop, run_any, run_bson, run_canon, run_check, run_dump, run_json, run_msg, salvage_canon,
+    salvage_check,
 };
 use loopback::run_loop;
 use proxy::{Options, ProxyFault};
@@ -31,6 +31,7 @@ use std::net::Net;
 use std::rt::Files;
 use std::time::Clock;
 use std::{fmt, fs, io};
+use wire_play::run_play;
 
 /// Returns the exit status of an end: 0 if all was good, 1 for a fault in the input, 3 if reading
 /// or writing failed, and 4 if memory ran out.

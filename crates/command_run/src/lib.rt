@@ -5,7 +5,7 @@
 //! writer. `Buffered` is the buffer of 64 KiB through which commands write. `write_fault` writes the
 //! line that ends the text of an input at fault.
 //!
-//! Stands on nothing. engines and loopback stand on it. Read first: `run`, and then `buffered`.
+//! Stands on nothing. engines, loopback and wire_play stand on it. Read first: `run`, and then `buffered`.
 #![tactic(auto)]
 
 mod buffered;

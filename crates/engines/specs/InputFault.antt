@@ -9,7 +9,6 @@ use Rattle.wire_text.specs.{msg_fault_line}
 use Rattle.engines.specs.declared.input_fault.InputFault.{InputFault}
 use Rattle.engines.specs.declared.input_fault.InputFault.TheVariants.{Hex, Bson, TooLarge, Msg}
 use Rattle.engines.specs.declared.input_fault.InputFault.TheVariants.{EndedInside, Record}
-use Rattle.engines.specs.declared.input_fault.InputFault.TheVariants.{Script}
 
 -- the line of a fault in hexadecimal text
 abbrev pub hex_line : ℕ → List ℕ
@@ -32,10 +31,6 @@ record_line offset c = record_fault_text offset c ++ codes "\n"
 abbrev pub ended_inside_line : ℕ → List ℕ
 ended_inside_line offset = fault_line 14 (codes "EndedInside") offset
 
--- the line of a script at fault in the line of this number
-abbrev pub script_line : ℕ → List ℕ
-script_line line = fault_line 15 (codes "Script") line
-
 -- the line of each fault of an input
 abbrev pub input_fault_line : InputFault → List ℕ
 input_fault_line (Hex offset) = hex_line offset
@@ -44,7 +39,6 @@ input_fault_line (TooLarge offset) = too_large_line offset
 input_fault_line (Msg f) = msg_fault_line f.at f.cause
 input_fault_line (Record f) = record_line f.at f.cause
 input_fault_line (EndedInside offset) = ended_inside_line offset
-input_fault_line (Script line) = script_line line
 
 -- the line of a fault, if there is one
 abbrev pub line_of : Option InputFault → Option (List ℕ)

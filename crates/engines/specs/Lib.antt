@@ -23,7 +23,6 @@ pub mod Records
 pub mod RecordWalk
 pub mod OrRecords
 pub mod OrRecordsWalk
-pub mod Play
 pub mod TextPieces
 -- the words that clauses of other crates cite
 pub use Rattle.engines.specs.Any.{AllFrames, AnyText, FirstFrames}
@@ -38,5 +37,4 @@ pub use Rattle.engines.specs.Msg.{AllMessages, FirstMessages, MsgText}
 pub use Rattle.engines.specs.OrRecords.{AllOrRecords, FirstOrRecords, TextOrRecords, as_messages}
 pub use Rattle.engines.specs.Output.{AppendsOne, IsAllOf, IsFirstOf, IsOutput, TextOf}
 pub use Rattle.engines.specs.Output.{WritesRead}
-pub use Rattle.engines.specs.Play.{ScriptText}
 pub use Rattle.engines.specs.Salvaged.{FirstSalvaged, SalvageText, SalvagedSoFar}

@@ -1,17 +1,16 @@
 //! Documents out of an input, for each of which a command writes a text.
 
-ghost use Rattle.std.specs.Prelude.{◌≡◌, ◌≢◌, ◌+◌, ◌<◌, ◌^◌, ℕ, Bool, List, Option, Err};
-ghost use Rattle.std.specs.Prelude.{IfErr, IfOk, IfSome, OnOk, false, length, true};
+ghost use Rattle.std.specs.Prelude.{◌≡◌, ◌+◌, ◌<◌, ◌^◌, ℕ, Bool, List, Option, IfOk, IfSome};
+ghost use Rattle.std.specs.Prelude.{OnOk, length, true};
 ghost use Rattle.std.specs.Io.KnownBytes.{Appends, IsAtEnd};
 ghost use Rattle.bson_elem.specs.{Spells, Tree};
 ghost use Rattle.bson_raw.specs.{document_bytes};
 ghost use Rattle.bson_stream.specs.{IsOpen, TellsForm};
-ghost use Rattle.command_run.specs.{AppendsText, is_done, is_fault, is_there, or_nothing};
+ghost use Rattle.command_run.specs.{AppendsText, is_done, is_fault};
 ghost use Rattle.engines.specs.DocumentWalk.{IsWritten, IsWrittenOrStops, document_reading};
 ghost use Rattle.engines.specs.DocumentWalk.{document_tells};
 ghost use Rattle.engines.specs.Documents.{AppendsFirst, IsWholeText, TextRule, WritesAll};
 ghost use Rattle.engines.specs.Documents.{documents_of};
-ghost use Rattle.engines.specs.InputFault.{line_of};
 ghost use Rattle.engines.specs.ItemWalk.{GoesOverItems};
 ghost use Rattle.engines.specs.Output.{IsOutput};
 ghost use Rattle.engines.specs.Walk.{Tells};
@@ -196,20 +195,4 @@ pub fn run_documents<E: EachDocument + Drop, R: Read, W: Write>(
 {
     let documents = Documents { each };
     run_walk(alloc, &documents, hex, reader, writer)
-}
-
-/// Writes the line of `fault`, if there is one. Returns true if there is.
-pub fn write_last<W: Write>(fault: Option<InputFault>, out: &mut W) -> Result<bool, RunEnd>
-    ensures written { IfOk result (λ there. (there ≡ is_there (line_of fault))
-        × Appends (W.contents out.old) (W.contents out.new) (or_nothing (line_of fault))) }
-    ensures stopped { IfErr result (λ end. end ≡ RunEnd.InOut) }
-    ensures unread { result ≢ Err RunEnd.Unread }
-{
-    let Some(fault) = fault else {
-        return Ok(false);
-    };
-    match fault.write(out) {
-        Ok(()) => Ok(true),
-        Err(_) => Err(RunEnd::InOut),
-    }
 }

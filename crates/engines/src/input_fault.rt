@@ -31,8 +31,6 @@ pub enum InputFault {
     Record(RecordFault),
     /// The input ends inside the message or record at `offset`.
     EndedInside { offset: usize },
-    /// The line of this number, counted from 1, is at fault in a script.
-    Script { line: usize },
 }
 
 impl InputFault {
@@ -48,7 +46,6 @@ impl InputFault {
             InputFault::Msg(fault) => write_msg_fault(fault, out),
             InputFault::Record(fault) => write_record_fault(fault, out),
             InputFault::EndedInside { offset } => write_fault(14, "EndedInside", offset, out),
-            InputFault::Script { line } => write_fault(15, "Script", line, out),
         }
     }
 }

@@ -4,17 +4,16 @@
 //! `run_dump`, `run_check`, `run_canon` and `run_json` read documents piece by piece, `run_bson`
 //! texts, `run_msg` messages, and `run_any` messages of any opCode, and write as these come.
 //! `run_json`, `run_msg` and `run_any` know a file of records by its first bytes, and write its
-//! records. `run_play` reads all that the reader has before it writes. Each writes one text for its
-//! input, through a buffer of 64 KiB, which the writer gets when it is full, when a read gave less
-//! than a piece, and at the end, and that of `run_bson` behind each piece; and tells how that ended.
+//! records. Each writes one text for its input, through a buffer of 64 KiB, which the writer gets
+//! when it is full, when a read gave less than a piece, and at the end, and that of `run_bson` behind
+//! each piece; and tells how that ended.
 //! Documents, messages or records stand back to back in the input, as bytes or as hexadecimal text,
-//! which is read whole; the input of `run_bson` is Extended JSON, and that of `run_play` a script of
-//! events. A fault in the input is told by the last line of the text, and by `run_bson` in what it
-//! returns. `salvage_check` and `salvage_canon` go on behind a fault; the one tells each, at its gap,
-//! and the other none.
+//! which is read whole; the input of `run_bson` is Extended JSON. A fault in the input is told by the
+//! last line of the text, and by `run_bson` in what it returns. `salvage_check` and `salvage_canon`
+//! go on behind a fault; the one tells each, at its gap, and the other none.
 //!
-//! Stands on command_run, bson_json_read, bson_stream, wire_record, wire_stream and wire_play.
-//! bsonwire stands on it. Read first: `walk`, `pieces`, `documents`, and then `dump`.
+//! Stands on command_run, bson_json_read, bson_stream, wire_record and wire_stream. bsonwire stands
+//! on it. Read first: `walk`, `pieces`, `documents`, and then `dump`.
 #![tactic(auto)]
 
 mod any;
@@ -33,7 +32,6 @@ mod messages;
 mod msg;
 mod or_records;
 mod pieces;
-mod play;
 mod record_text;
 mod records;
 mod salvage;
@@ -49,5 +47,4 @@ pub use check::{run_check, salvage_check};
 pub use dump::run_dump;
 pub use json::{Layout, run_json};
 pub use msg::{MessageForm, run_msg};
-pub use play::run_play;
 pub use record_text::RecordForm;

@@ -1,7 +1,7 @@
 //! Tests of the engines, by what no contract says: readers and writers that fail, and refused allocations. The texts that a
 //! run writes are tried by the program that is built, in `scripts/checks/try-tables` and `scripts/checks/try-json`.
 //!
-//! Stands on engines, command_run_tests and wire_play_tests. Read first: `dump`.
+//! Stands on engines and command_run_tests. Read first: `dump`.
 #![tactic(auto)]
 
 #[cfg(test)]
@@ -22,8 +22,6 @@ mod json;
 mod msg;
 #[cfg(test)]
 mod pieces;
-#[cfg(test)]
-mod play;
 #[cfg(test)]
 mod records;
 #[cfg(test)]

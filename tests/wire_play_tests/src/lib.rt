@@ -2,9 +2,12 @@
 //! what stands when memory is refused. Scripts whose texts were worked out by hand are tried by the
 //! program (`scripts/model/play-rows`).
 //!
-//! Uses wire_play. Used by engines_tests, for `kept`. Read first: `kept`.
+//! Uses wire_play and command_run_tests. Read first: `kept`.
 #![tactic(auto)]
 
-pub mod kept;
+#[cfg(test)]
+mod kept;
 #[cfg(test)]
 mod play_refusals;
+#[cfg(test)]
+mod runs;

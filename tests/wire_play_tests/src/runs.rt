@@ -1,10 +1,10 @@
-//! What no contract says of `play`: that reads and writes which fail end it. Its texts stand in wire_play_tests.
+//! What no contract says of `run_play`: that reads and writes which fail end it.
 
 use command_run::RunEnd;
 use command_run_tests::readers::Broken;
 use command_run_tests::writers::Counter;
-use engines::run_play;
 use std::alloc::Global;
+use wire_play::run_play;
 
 #[test]
 fn a_failed_read_writes_nothing(rt: HostRuntime) {

@@ -1,17 +1,14 @@
 //! The command `play`: what happens in a world by a script of events.
 
-ghost use Rattle.std.specs.Prelude.{◌≡◌, ◌≢◌, ◌⊎◌, IfSome, true};
-ghost use Rattle.std.specs.Io.KnownBytes.{IsAtEnd, Keeps};
-ghost use Rattle.command_run.specs.{AppendsText, is_done, is_fault};
-ghost use Rattle.engines.specs.InputFault.{line_of};
-ghost use Rattle.engines.specs.Play.{ScriptText, end_of_stop, last_of};
+ghost use Rattle.std.specs.Prelude.{◌≡◌, ◌≢◌, ◌⊎◌, Err, IfErr, IfOk, IfSome, true};
+ghost use Rattle.std.specs.Io.KnownBytes.{Appends, IsAtEnd, Keeps};
+ghost use Rattle.command_run.specs.{AppendsText, is_done, is_fault, is_there, or_nothing};
+ghost use Rattle.wire_play.specs.Running.{ScriptText, end_of_stop, last_of};
 
-use crate::documents::write_last;
-use crate::input_fault::InputFault;
-use command_run::{Engine, RunEnd, run};
+use crate::playing::{PlayStop, play};
+use command_run::{Engine, RunEnd, run, write_fault};
 use std::alloc::Global;
 use std::io::{Read, Write};
-use wire_play::PlayStop;
 
 /// The command `play`.
 #[derive(Drop)]
@@ -19,13 +16,19 @@ struct Play {
     alloc: Global,
 }
 
-/// Returns the fault of a script whose line of this number is at fault, if one is.
-fn script_fault(line: Option<usize>) -> Option<InputFault>
-    ensures { line_of result ≡ last_of line }
+/// Writes that the line of this number is at fault, if one is. Returns true if one is.
+fn write_last<W: Write>(line: Option<usize>, out: &mut W) -> Result<bool, RunEnd>
+    ensures written { IfOk result (λ there. (there ≡ is_there (last_of line))
+        × Appends (W.contents out.old) (W.contents out.new) (or_nothing (last_of line))) }
+    ensures stopped { IfErr result (λ end. end ≡ RunEnd.InOut) }
+    ensures unread { result ≢ Err RunEnd.Unread }
 {
-    match line {
-        Some(line) => Some(InputFault::Script { line }),
-        None => None,
+    let Some(line) = line else {
+        return Ok(false);
+    };
+    match write_fault(15, "Script", line, out) {
+        Ok(()) => Ok(true),
+        Err(_) => Err(RunEnd::InOut),
     }
 }
 
@@ -44,8 +47,8 @@ impl Engine for Play {
     ghost is_text = { λ _. ScriptText };
 
     fn write_text<W: Write>(&self, bytes: &[u8], out: &mut W) -> Result<bool, RunEnd> {
-        match wire_play::play(self.alloc, bytes, out) {
-            Ok(line) => write_last(script_fault(line), out),
+        match play(self.alloc, bytes, out) {
+            Ok(line) => write_last(line, out),
             Err(stop) => Err(end_of_stop(stop)),
         }
     }

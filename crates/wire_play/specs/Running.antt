@@ -1,12 +1,15 @@
 -- What `play` writes, and how a run ends whose play stopped.
-use Rattle.std.specs.Prelude.{◌≡◌, ℕ, List, ◌++◌, Bool, Option, None, Some}
-use Rattle.command_run.specs.{is_there, or_nothing}
-use Rattle.wire_play.specs.{TextUpTo}
-use Rattle.wire_play.specs.declared.playing.PlayStop.{PlayStop}
-use Rattle.wire_play.specs.declared.playing.PlayStop.TheVariants.{Failed, OutOfMemory}
+use Rattle.std.specs.Prelude.{◌≡◌, ℕ, List, ◌++◌, Bool, Option, None, Some, codes}
 use Rattle.command_run.specs.declared.run.RunEnd.{RunEnd}
 use Rattle.command_run.specs.declared.run.RunEnd.TheVariants as run
-use Rattle.engines.specs.InputFault.{script_line}
+use Rattle.command_run.specs.{fault_line, is_there, or_nothing}
+use Rattle.wire_play.specs.declared.playing.PlayStop.{PlayStop}
+use Rattle.wire_play.specs.declared.playing.PlayStop.TheVariants.{Failed, OutOfMemory}
+use Rattle.wire_play.specs.Scripts.{TextUpTo}
+
+-- the line of a script at fault in the line of this number
+abbrev pub script_line : ℕ → List ℕ
+script_line line = fault_line 15 (codes "Script") line
 
 -- the last line, if a line of the script is at fault
 abbrev pub last_of : Option ℕ → Option (List ℕ)
