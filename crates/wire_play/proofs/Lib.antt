@@ -1,3 +1,12 @@
+pub mod BareEvents
+pub mod Behind
+pub mod BytesEvents
+pub mod Keywords
+pub mod OneName
+pub mod Parts
+pub mod Readings
+pub mod Setups
+pub mod Steps
 pub mod Listings
 pub mod Plays
 pub mod ScriptLaws

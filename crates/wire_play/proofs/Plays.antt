@@ -11,12 +11,12 @@ use Rattle.wire_model.specs.declared.reports.Report.{Report}
 use Rattle.wire_model.specs.{AreGood, World}
 use Rattle.wire_world.specs.Setups.{IsNewWorld}
 use Rattle.wire_world.specs.Worlds.{WorldSeen}
-use Rattle.wire_script.specs.declared.named.Setup.{Setup}
-use Rattle.wire_script.specs.{Names, setup}
+use Rattle.wire_play.specs.declared.named.Setup.{Setup}
+use Rattle.wire_play.specs.Naming.{Names, setup}
 use Rattle.wire_play.specs.Reports.{result_line}
 use Rattle.wire_play.specs.Scripts.{LinesText, Plays, PlaysIn, LineHappens, Writes, ending, world_text}
 use Rattle.wire_play.specs.Played.{LinePlayed, LinesPlayed, OverText, SetupText}
-use Rattle.wire_script.proofs.Lemmas.{one_setup}
+use Rattle.wire_play.proofs.OneName.{one_setup}
 
 -- Lines were played from one world to another, with these results, and the results' lines were written. Playing the lines that
 -- are left then completes the playing of all.

@@ -6,8 +6,8 @@ use Rattle.wire_model.specs.declared.limits.WorldLimits.{WorldLimits}
 use Rattle.wire_model.specs.declared.refusals.WorldRefusal.{WorldRefusal}
 use Rattle.wire_model.specs.declared.reports.Report.{Report}
 use Rattle.wire_model.specs.{World}
-use Rattle.wire_script.specs.declared.named.HandlerName.{HandlerName}
-use Rattle.wire_script.specs.declared.named.HandlerName.TheVariants.{Echo, Count}
+use Rattle.wire_play.specs.declared.named.HandlerName.{HandlerName}
+use Rattle.wire_play.specs.declared.named.HandlerName.TheVariants.{Echo, Count}
 use Rattle.wire_play.specs.Closing.{closing_text}
 use Rattle.wire_play.specs.Reports.{result_line}
 use Rattle.wire_play.specs.Scripts.{LinesText, Plays, PlaysBy, ending, world_text}

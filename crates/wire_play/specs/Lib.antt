@@ -1,3 +1,8 @@
+pub mod Words
+pub mod Naming
+pub mod Lent
+pub mod Reading
+pub mod Same
 pub mod Reports
 pub mod Closing
 pub mod Scripts
@@ -5,6 +10,10 @@ pub mod Played
 pub mod Running
 -- the words that clauses of other crates cite
 pub use Rattle.wire_play.specs.Closing.{closing_text}
+pub use Rattle.wire_play.specs.Lent.{IsLine, Lends}
+pub use Rattle.wire_play.specs.Naming.{Named, Names, NamesBytes, event, setup}
 pub use Rattle.wire_play.specs.Reports.{result_line}
 pub use Rattle.wire_play.specs.Running.{ScriptText}
+pub use Rattle.wire_play.specs.Same.{IsSame}
 pub use Rattle.wire_play.specs.Scripts.{TextUpTo, Writes}
+pub use Rattle.wire_play.specs.Words.{words_of}

@@ -9,7 +9,7 @@ use Rattle.wire_model.specs.declared.refusals.WorldRefusal.{WorldRefusal}
 use Rattle.wire_model.specs.declared.refusals.WorldRefusal.TheVariants.{OutOfMemory}
 use Rattle.wire_model.specs.declared.reports.Report.{Report}
 use Rattle.wire_model.specs.{AreGood, Happens, World, opening}
-use Rattle.wire_script.specs.declared.named.Setup.{Setup}
+use Rattle.wire_play.specs.declared.named.Setup.{Setup}
 use Rattle.wire_play.specs.Reports.{result_line}
 use Rattle.wire_play.specs.Scripts.{NamesNoEvent, Plays, PlaysBy, PlaysIn, LineHappens}
 

@@ -13,10 +13,10 @@ use Rattle.wire_model.specs.declared.refusals.WorldRefusal.TheVariants.{OutOfMem
 use Rattle.wire_model.specs.declared.reports.Report.{Report}
 use Rattle.wire_model.specs.{AreGood, Happens, World, opening}
 use Rattle.script_lines.specs.{script_lines}
-use Rattle.wire_script.specs.declared.named.HandlerName.{HandlerName}
-use Rattle.wire_script.specs.declared.named.HandlerName.TheVariants.{Echo, Count}
-use Rattle.wire_script.specs.declared.named.Setup.{Setup}
-use Rattle.wire_script.specs.{Names, event, setup}
+use Rattle.wire_play.specs.declared.named.HandlerName.{HandlerName}
+use Rattle.wire_play.specs.declared.named.HandlerName.TheVariants.{Echo, Count}
+use Rattle.wire_play.specs.declared.named.Setup.{Setup}
+use Rattle.wire_play.specs.Naming.{Names, event, setup}
 use Rattle.wire_play.specs.Closing.{closing_text}
 use Rattle.wire_play.specs.Reports.{result_line}
 

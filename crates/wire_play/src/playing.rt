@@ -6,13 +6,14 @@ ghost use Rattle.wire_play.specs.Played.{EventPlayed, LinePlayed, LinesPlayed, O
 ghost use Rattle.wire_play.specs.Scripts.{PlaysIn, TextUpTo, Writes};
 
 use crate::closing::write_closing;
+use crate::named::{HandlerName, Line, Setup};
+use crate::parse::parse_line;
 use crate::reports::write_result;
 use script_lines::{LineError, Lines};
 use std::alloc::Global;
 use std::io;
 use std::io::Write;
 use wire_peer::{Count, Echo, Handler};
-use wire_script::{HandlerName, Line, Setup, parse_line};
 use wire_world::{Event, SetupRefusal, World, WorldLimits, WorldRefusal};
 
 /// Why the rest of a script's text wasn't written.

@@ -1,13 +1,22 @@
-//! Tests of what no contract of scripts of events says: that a run succeeds if there is memory, and
-//! what stands when memory is refused. Scripts whose texts were worked out by hand are tried by the
-//! program (`scripts/model/play-rows`).
+//! Tests of what no contract of scripts of events says: that a line of each form is read, and a run
+//! succeeds, if there is memory, what stands when memory is refused, and that the definitions mean
+//! the forms. Scripts whose texts were worked out by hand are tried by the program
+//! (`scripts/model/play-rows`).
 //!
-//! Uses wire_play and command_run_tests. Read first: `kept`.
+//! Uses wire_play and command_run_tests. Read first: `forms`, and then `kept`.
 #![tactic(auto)]
 
 #[cfg(test)]
+mod forms;
+#[cfg(test)]
 mod kept;
 #[cfg(test)]
+mod line_refusals;
+#[cfg(test)]
+mod other_forms;
+#[cfg(test)]
 mod play_refusals;
+#[cfg(test)]
+mod readings;
 #[cfg(test)]
 mod runs;

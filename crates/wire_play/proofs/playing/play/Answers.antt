@@ -1,6 +1,6 @@
 use Rattle.std.proofs.Common.{Err, ap, sym, ◌∙◌}
-use Rattle.wire_script.specs.{setup}
-use Rattle.wire_script.proofs.Lemmas.{setup_or_event}
+use Rattle.wire_play.specs.Naming.{setup}
+use Rattle.wire_play.proofs.OneName.{setup_or_event}
 use Rattle.wire_play.proofs.Plays.{first_faulted, first_played}
 use Rattle.wire_play.proofs.playing.play.Goals as goal
 

@@ -1,7 +1,7 @@
 use Rattle.std.proofs.Common.{Err, ap, refl}
 use Rattle.std.proofs.KnownBytes.{Keeps-refl}
-use Rattle.wire_script.specs.{event}
-use Rattle.wire_script.proofs.Lemmas.{setup_or_event}
+use Rattle.wire_play.specs.Naming.{event}
+use Rattle.wire_play.proofs.OneName.{setup_or_event}
 use Rattle.wire_play.proofs.playing.play_line.Goals as goal
 
 pub returns-in-Err-Malformed-clause-played : goal.returns-in-Err-Malformed-clause-played

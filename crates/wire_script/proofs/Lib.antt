@@ -1,9 +1,0 @@
-pub mod BareEvents
-pub mod Behind
-pub mod BytesEvents
-pub mod Keywords
-pub mod Lemmas
-pub mod Parts
-pub mod Readings
-pub mod Setups
-pub mod Steps

@@ -1,5 +1,0 @@
-use Rattle.std.proofs.Common.{refl}
-use Rattle.wire_script.proofs.named.ScriptEvent.as_event.Goals as goal
-
-pub returns-in-Call : goal.returns-in-Call
-returns-in-Call c = rw c.in-Call.is (c.as_payload.result, refl, c.as_payload.ensures)

@@ -1,5 +1,0 @@
-use Rattle.wire_script.proofs.Behind.{no_word}
-use Rattle.wire_script.proofs.operands.has_no_words.Goals as goal
-
-pub returns : goal.returns
-returns c = no_word c.args.rest c.is_none.result c.is_none.ensures
