@@ -6,8 +6,8 @@ use Rattle.command_words.proofs.Lemmas.{reads_true}
 use Rattle.bsonwire.specs.declared.choice.Reading.{Reading}
 use Rattle.bsonwire.specs.declared.choice.Reading.TheVariants.{Bytes, Hex, Salvage}
 use Rattle.bsonwire.specs.Choices.{HoldsFlag, HoldsHex, HoldsMessageForm, HoldsReading, IsCount, is_relaxed}
-use Rattle.engines.specs.declared.msg.MessageForm.{MessageForm}
-use Rattle.engines.specs.declared.msg.MessageForm.TheVariants.{Text as in_text, Json as in_json}
+use Rattle.file_commands.specs.declared.msg.MessageForm.{MessageForm}
+use Rattle.file_commands.specs.declared.msg.MessageForm.TheVariants.{Text as in_text, Json as in_json}
 
 -- ---- the flags of `msg`
 

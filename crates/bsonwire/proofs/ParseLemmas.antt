@@ -18,10 +18,10 @@ use Rattle.bsonwire.specs.declared.choice.Command.{Command}
 use Rattle.bsonwire.specs.declared.choice.Command.TheVariants.{Any, Dump, Check, Canon, Json, Bson, Msg, Play}
 use Rattle.bson_json.specs.declared.mode.Mode.{Mode}
 use Rattle.bson_json.specs.declared.mode.Mode.TheVariants.{Canonical, Relaxed}
-use Rattle.engines.specs.declared.json.Layout.{Layout}
-use Rattle.engines.specs.declared.json.Layout.TheVariants.{Lines, Array}
-use Rattle.engines.specs.declared.msg.MessageForm.{MessageForm}
-use Rattle.engines.specs.declared.msg.MessageForm.TheVariants.{Text as in_text, Json as in_json}
+use Rattle.file_commands.specs.declared.json.Layout.{Layout}
+use Rattle.file_commands.specs.declared.json.Layout.TheVariants.{Lines, Array}
+use Rattle.file_commands.specs.declared.msg.MessageForm.{MessageForm}
+use Rattle.file_commands.specs.declared.msg.MessageForm.TheVariants.{Text as in_text, Json as in_json}
 use Rattle.bsonwire.specs.declared.choice.Reading.{Reading}
 use Rattle.bsonwire.specs.declared.choice.Reading.TheVariants.{Bytes, Hex, Salvage}
 use Rattle.bsonwire.specs.Choices.{HoldsFlag, HoldsHex, HoldsMessageForm, HoldsReading, IsCommand, MayChoose, is_array, is_relaxed, salvages_text}

@@ -2,10 +2,10 @@
 use Rattle.std.proofs.Common.{◌≡◌, ◌∙◌, inl, inr, ℕ, List, Bool, true, false, Option, Some, None, Result, Ok, Err, refl, ap, length, sym, subst, true≢false}
 use Rattle.std.specs.Prelude.{IfErr, IfOk, IfSome, OnOk, is_some}
 use Rattle.bson_json_read.specs.{Left}
-use Rattle.engines.specs.declared.bson.TextStop.{TextStop}
-use Rattle.engines.specs.declared.bson.TextStop.TheVariants.{Fault, Refused}
+use Rattle.file_commands.specs.declared.bson.TextStop.{TextStop}
+use Rattle.file_commands.specs.declared.bson.TextStop.TheVariants.{Fault, Refused}
 use Rattle.command_run.specs.declared.run.RunEnd.{RunEnd}
-use Rattle.engines.specs.BsonOf.{BsonText, EndsAt, StopsAt, WritesTexts, bytes_of_each}
+use Rattle.file_commands.specs.BsonOf.{BsonText, EndsAt, StopsAt, WritesTexts, bytes_of_each}
 use Rattle.command_run.specs.{AppendsText, is_done, is_fault}
 
 -- the end that tells what `bson` returned

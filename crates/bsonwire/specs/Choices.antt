@@ -22,18 +22,19 @@ use Rattle.proxy.specs.declared.options.Show.TheVariants.{Nothing, Text as as_te
 use Rattle.replay.specs.declared.options.ReplayOptions.{ReplayOptions}
 use Rattle.bson_json.specs.declared.mode.Mode.{Mode}
 use Rattle.bson_json.specs.declared.mode.Mode.TheVariants.{Canonical, Relaxed}
-use Rattle.engines.specs.declared.json.Layout.{Layout}
-use Rattle.engines.specs.declared.json.Layout.TheVariants.{Lines, Array}
-use Rattle.engines.specs.declared.msg.MessageForm.{MessageForm}
-use Rattle.engines.specs.declared.msg.MessageForm.TheVariants.{Text as in_text, Json as in_json}
-use Rattle.engines.specs.declared.record_text.RecordForm.TheVariants as records
-use Rattle.engines.specs.{AllBson, AllFrames, AllMessages, AllOrRecords, AllTexts, AnyText}
-use Rattle.engines.specs.{BsonText, CanonText, CheckText, DumpText, FirstBson, FirstFrames}
-use Rattle.engines.specs.{FirstMessages, FirstOrRecords, FirstSalvaged, FirstTexts, IsAllOf}
-use Rattle.engines.specs.{IsFirstOf, IsOutput, JsonText}
-use Rattle.engines.specs.{MayBeJson, MsgText, SalvageText, SalvagedSoFar}
-use Rattle.engines.specs.{TextOrRecords, as_messages, canon_of, check_of, dump_of}
-use Rattle.engines.specs.{told_at, told_by}
+use Rattle.file_commands.specs.declared.json.Layout.{Layout}
+use Rattle.file_commands.specs.declared.json.Layout.TheVariants.{Lines, Array}
+use Rattle.file_commands.specs.declared.msg.MessageForm.{MessageForm}
+use Rattle.file_commands.specs.declared.msg.MessageForm.TheVariants.{Text as in_text}
+use Rattle.file_commands.specs.declared.msg.MessageForm.TheVariants.{Json as in_json}
+use Rattle.file_commands.specs.declared.record_text.RecordForm.TheVariants as records
+use Rattle.file_commands.specs.{AllBson, AllFrames, AllMessages, AllOrRecords, AllTexts, AnyText}
+use Rattle.file_commands.specs.{BsonText, CanonText, CheckText, DumpText, FirstBson, FirstFrames}
+use Rattle.file_commands.specs.{FirstMessages, FirstOrRecords, FirstSalvaged, FirstTexts, IsAllOf}
+use Rattle.file_commands.specs.{IsFirstOf, IsOutput, JsonText}
+use Rattle.file_commands.specs.{MayBeJson, MsgText, SalvageText, SalvagedSoFar}
+use Rattle.file_commands.specs.{TextOrRecords, as_messages, canon_of, check_of, dump_of}
+use Rattle.file_commands.specs.{told_at, told_by}
 use Rattle.wire_play.specs.{ScriptText}
 
 -- ---- what the matches of a subcommand hold

@@ -18,7 +18,7 @@ use crate::command_line::{
 };
 use clap::{ArgMatches, Error};
 use command_words::{count_of, is_given, number_of, text_of};
-use engines::{Layout, MessageForm, Mode};
+use file_commands::{Layout, MessageForm, Mode};
 use proxy::{Options, Show};
 use replay::ReplayOptions;
 use std::alloc::Global;

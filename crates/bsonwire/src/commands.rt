@@ -9,7 +9,7 @@ ghost use Rattle.std.specs.IoError.{error_kind, raw_os_error};
 ghost use Rattle.bsonwire.specs.Choices.{AllOf, CommandText, FirstOf, reads_first};
 ghost use Rattle.bsonwire.specs.ExitStatus.{IsStatusFor, exit_status, tells_done, tells_fault};
 ghost use Rattle.command_run.specs.{AppendsText, end_of_error, is_done, is_fault};
-ghost use Rattle.engines.specs.{AppendsOne, WritesRead};
+ghost use Rattle.file_commands.specs.{AppendsOne, WritesRead};
 ghost use Rattle.loopback.specs.{AppendsUpTo, loop_text};
 
 use crate::choice::{Choice, Command, Reading};
@@ -17,7 +17,7 @@ use crate::noted::{Because, Noted};
 use crate::progress::Progress;
 use command_run::{RunEnd, end_of};
 use command_words::{IN_OUT, MEMORY, USAGE};
-use engines::{
+use file_commands::{
     TextStop, run_any, run_bson, run_canon, run_check, run_dump, run_json, run_msg, salvage_canon,
     salvage_check,
 };

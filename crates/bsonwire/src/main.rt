@@ -11,8 +11,8 @@
 //! missing or is one too many, or a connection of a replay failed; 2 if the command line or a proxy's
 //! script is at fault; 3 if reading, writing or the network failed; and 4 if memory ran out.
 //!
-//! Uses engines, proxy, shared_proxy, replay, sockets and command_words. Read first: `commands`, and
-//! then `choice`.
+//! Uses file_commands, loopback, wire_play, proxy, shared_proxy, replay, sockets, command_run and
+//! command_words. Read first: `commands`, and then `choice`.
 #![tactic(auto)]
 
 mod choice;

@@ -3,7 +3,7 @@ use Rattle.std.specs.Prelude.{IfSome}
 use Rattle.command_run.specs.declared.run.RunEnd.{RunEnd}
 use Rattle.command_run.specs.declared.run.RunEnd.TheVariants.{OutOfMemory, Unread}
 use Rattle.command_run.specs.{AppendsText, is_done, is_fault}
-use Rattle.engines.specs.{AppendsOne, WritesRead}
+use Rattle.file_commands.specs.{AppendsOne, WritesRead}
 use Rattle.bsonwire.specs.declared.choice.Command.{Command}
 use Rattle.bsonwire.specs.Choices.{AllOf, CommandText, FirstOf}
 use Rattle.bsonwire.proofs.StopLemmas.{done_ok, ended_so, written_whole}

@@ -1,6 +1,0 @@
-use Rattle.std.proofs.Common.{[], refl}
-use Rattle.std.proofs.KnownBytes.{Appends-nil}
-use Rattle.engines.proofs.frames.FramesWalk.write_closing.Goals as goal
-
-pub returns : goal.returns
-returns g c = λ bytes texts last e. ([], (texts, last, e.0, refl, refl), Appends-nil _)

@@ -1,5 +1,0 @@
-use Rattle.engines.proofs.FrameLaws.{one_any_text}
-use Rattle.engines.proofs.laws.one_text_of_frames.Goals as goal
-
-pub returns : goal.returns
-returns c = one_any_text

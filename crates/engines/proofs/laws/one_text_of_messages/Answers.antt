@@ -1,5 +1,0 @@
-use Rattle.engines.proofs.MessageLaws.{one_msg_text}
-use Rattle.engines.proofs.laws.one_text_of_messages.Goals as goal
-
-pub returns : goal.returns
-returns c = one_msg_text
