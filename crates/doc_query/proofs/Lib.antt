@@ -6,9 +6,5 @@ pub mod PathLaws
 pub mod Depths
 pub mod EqualValues
 pub mod HeldDecimals
-pub mod Keeping
-pub mod StableSorts
-pub mod SortOrders
 pub mod Owning
 pub mod Lemmas
-mod Fitting

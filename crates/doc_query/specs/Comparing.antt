@@ -1,6 +1,6 @@
 -- The order of values (MongoDB manual, Comparison/Sort Order). Each has a place: the bracket of its
 -- kind, by the manual's table, and in it a number and bytes. The order is that of the places.
-use Rattle.std.specs.Prelude.{ℕ, ℤ, pos, List, [], Option, Some, None, if◌then◌else◌}
+use Rattle.std.specs.Prelude.{ℕ, ℤ, pos, List, [], Option, Some, None, if◌then◌else◌, unwrap_or}
 use Rattle.std.specs.Cmp.Lexicographic.{slice_cmp}
 use Rattle.std.specs.Int.{w64, from_le_bytes}
 use Rattle.std.specs.Ordering.{int_cmp, nat_cmp, ordering_then}
@@ -52,6 +52,15 @@ abbrev pub place_order : PlaceView → PlaceView → Ordering
 place_order p q =
     ordering_then (nat_cmp p.bracket q.bracket)
     (ordering_then (int_cmp p.number q.number) (slice_cmp nat_cmp p.bytes q.bytes))
+
+-- a missing field is as null
+abbrev pub field_place : Option TreeValue → PlaceView
+field_place None = numbered 1 (pos 0)
+field_place (Some v) = unwrap_or (place v) (numbered 1 (pos 0))
+
+-- the order of the values of a field in two documents
+abbrev pub field_order : Option TreeValue → Option TreeValue → Ordering
+field_order v w = place_order (field_place v) (field_place w)
 
 -- a place of the code
 abbrev pub place_view : Place → PlaceView

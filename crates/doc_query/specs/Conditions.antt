@@ -1,6 +1,6 @@
 -- The conditions of filters: what the operators ask of a field (MongoDB manual, Query and
 -- Projection Operators: Comparison, and Element).
-use Rattle.std.specs.Prelude.{ℕ, pos, List, [], ◌∷◌, Bool, true, false, not, ◌&&◌, ◌||◌, ◌==◌}
+use Rattle.std.specs.Prelude.{ℕ, ℤ, pos, List, [], ◌∷◌, Bool, true, false, not, ◌&&◌, ◌||◌, ◌==◌}
 use Rattle.std.specs.Prelude.{Option, Some, None, codes, is_some, unwrap_or, if◌then◌else◌}
 use Rattle.std.specs.List.{list_any}
 use Rattle.std.specs.Ordering.{is_eq, is_ge, is_gt, is_le, is_lt}
@@ -81,6 +81,10 @@ passes_at op own v _ _ = false
 
 abbrev pub passes : Operator → TreeValue → TreeValue → Bool
 passes op own v = passes_at op own v (place own) (place v)
+
+-- the value is equal to this number
+abbrev pub is_number : ℤ → TreeValue → Bool
+is_number z v = passes operators.Eq v (int32 z)
 
 -- ---- the values of a field, of which None is one that is missing
 

@@ -33,6 +33,10 @@ is_operator (b ∷ bs) = b == 36
 abbrev pub is_path : List ℕ → Bool
 is_path name = list_any (λ b. b == 46) name
 
+-- a field of the document itself is named
+abbrev pub is_plain_name : List ℕ → Bool
+is_plain_name name = not (bytes_eq name (codes "") || is_operator name || is_path name)
+
 -- the first of these names is that of an operator
 abbrev pub begins_with_operator : Tree → Bool
 begins_with_operator no_pairs = false

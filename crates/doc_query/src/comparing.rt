@@ -1,9 +1,9 @@
 //! Finds the place of a value in the order of values, and compares places.
 
-ghost use Rattle.std.specs.Prelude.{◌≡◌, MatchOption, None, Some};
+ghost use Rattle.std.specs.Prelude.{◌≡◌, MatchOption, None, Some, is_some, option_map};
 ghost use Rattle.bson_doc.specs.{value_of};
-ghost use Rattle.doc_query.specs.Comparing.{double_place, lettered, numbered, place, place_order};
-ghost use Rattle.doc_query.specs.Comparing.{place_view};
+ghost use Rattle.doc_query.specs.Comparing.{double_place, field_order, field_place, lettered};
+ghost use Rattle.doc_query.specs.Comparing.{numbered, place, place_order, place_view};
 ghost use Rattle.doc_query.specs.Numbers.{number_value};
 
 use crate::numbers::{Number, double_number, is_nan, number_order, whole_number};
@@ -28,7 +28,7 @@ const NO_NUMBER: Number = Number {
 };
 
 /// The place of null, and of a field that is missing.
-pub const NULL_PLACE: Place<'static> = Place {
+const NULL_PLACE: Place<'static> = Place {
     bracket: 1,
     number: NO_NUMBER,
     bytes: &[],
@@ -95,6 +95,13 @@ pub fn place_of(value: &Bson) -> Option<Place<'_>>
     Some(place)
 }
 
+/// Returns true if a value is compared: if it has a place.
+pub fn has_place(value: &Bson) -> bool
+    ensures { result ≡ is_some (place (value_of value.now)) }
+{
+    place_of(value).is_some()
+}
+
 /// Compares two places.
 pub fn place_order(a: Place<'_>, b: Place<'_>) -> Ordering
     ensures { result ≡ place_order (place_view a.entry) (place_view b.entry) }
@@ -103,4 +110,26 @@ pub fn place_order(a: Place<'_>, b: Place<'_>) -> Ordering
         .cmp(&b.bracket)
         .then(number_order(a.number, b.number))
         .then(a.bytes.cmp(b.bytes))
+}
+
+/// Returns the place of the value of a field.
+fn field_place(own: Option<&Bson>) -> Place<'_>
+    ensures { place_view result ≡ field_place (option_map (λ v. value_of v.now) own.entry) }
+{
+    let Some(own) = own else {
+        return NULL_PLACE;
+    };
+    match place_of(own) {
+        Some(place) => place,
+        None => NULL_PLACE,
+    }
+}
+
+/// Compares the values of a field in two documents by their places. A field that is missing, or has
+/// a value without a place, is as null.
+pub fn field_order(a: Option<&Bson>, b: Option<&Bson>) -> Ordering
+    ensures { result ≡ field_order (option_map (λ v. value_of v.now) a.entry)
+        (option_map (λ v. value_of v.now) b.entry) }
+{
+    place_order(field_place(a), field_place(b))
 }

@@ -5,9 +5,9 @@ ghost use Rattle.std.specs.Prelude.{◌≡◌, map};
 ghost use Rattle.bson_doc.specs.{tree_of, value_of};
 ghost use Rattle.doc_query.specs.Conditions.{accepts, are_conditions, are_equated, elements};
 ghost use Rattle.doc_query.specs.Conditions.{is_equated, is_list, is_named_operand, is_operand};
-ghost use Rattle.doc_query.specs.Conditions.{is_ranked, operator_of, passes};
+ghost use Rattle.doc_query.specs.Conditions.{is_number, is_ranked, operator_of, passes};
 
-use crate::comparing::{place_of, place_order};
+use crate::comparing::{has_place, place_of, place_order};
 use crate::decimals::holds_decimal;
 use crate::equality::is_equal;
 use bson_doc::{Bson, Document};
@@ -73,7 +73,7 @@ fn is_ranked(value: &Bson) -> bool
 {
     match value {
         Bson::MinKey | Bson::MaxKey | Bson::Undefined => false,
-        _ => place_of(value).is_some(),
+        _ => has_place(value),
     }
 }
 
@@ -122,6 +122,13 @@ pub fn passes(operator: Operator, own: &Bson, operand: &Bson) -> bool
         (None, None) => is_equal(own, operand),
         _ => false,
     }
+}
+
+/// Returns true if a value is equal to this number, whatever kind of number it is.
+pub fn is_number(value: &Bson, number: i32) -> bool
+    ensures { result ≡ is_number number (value_of value.now) }
+{
+    passes(Operator::Eq, value, &Bson::Int32(number))
 }
 
 /// Returns the values of an array, or none if the value is no array.

@@ -13,7 +13,7 @@ ghost use Rattle.doc_query.specs.Filters.{compared, compares, compares_all, fiel
 ghost use Rattle.doc_query.specs.Filters.{filter_fault, filter_field, filter_in, filter_of, found};
 ghost use Rattle.doc_query.specs.Filters.{found_in, has_clause, has_clauses, has_field, has_fields};
 ghost use Rattle.doc_query.specs.Filters.{has_pair, has_value, is_asked, is_operator, is_path};
-ghost use Rattle.doc_query.specs.Filters.{has_operators, is_nested, is_reference};
+ghost use Rattle.doc_query.specs.Filters.{has_operators, is_nested, is_plain_name, is_reference};
 ghost use Rattle.doc_query.specs.Filters.{is_refused_field};
 ghost use Rattle.doc_query.specs.Filters.{is_uncompared, lists_operator, matches, nests_operator};
 ghost use Rattle.doc_query.specs.Filters.{read_filter, value_fault};
@@ -38,10 +38,18 @@ pub fn is_operator(name: &str) -> bool
 }
 
 /// Returns true if `name` is that of a field in an embedded document: if it has a dot.
-pub fn is_path(name: &str) -> bool
+fn is_path(name: &str) -> bool
     ensures { result ≡ is_path name.now }
 {
     name.as_bytes().contains(&b'.')
+}
+
+/// Returns true if a name is that of a field of the document itself: if it isn't empty, begins with no
+/// `$` and has no dot.
+pub fn is_plain_name(name: &str) -> bool
+    ensures { result ≡ is_plain_name name.now }
+{
+    !(name == "" || is_operator(name) || is_path(name))
 }
 
 /// Returns true if the first name of a document is that of an operator.

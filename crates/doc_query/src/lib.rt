@@ -1,16 +1,13 @@
-//! Queries of documents: filters, sorts, projections and pipelines.
+//! Queries of documents: the filters that say which documents match.
 //!
-//! A filter says which documents match it, a sort in which order they come, a projection which of
-//! their fields are kept, and each stage of a pipeline makes documents of those that the stage
-//! before left. What is carried out of MongoDB's own query language is a stated part of it, and all
-//! else is refused by a `CommandError`. Values are compared by their place in a stated order, and
-//! numbers of all kinds by value, exactly, also inside documents and arrays.
+//! What is carried out of MongoDB's own query language is a stated part of it, and all else is
+//! refused by a `CommandError`. Values are compared by their place in a stated order, and numbers of
+//! all kinds by value, exactly, also inside documents and arrays.
 //!
-//! Stands on bson_doc. doc_update, test_store and test_script stand on it. Read first: `comparing`, `equality`,
-//! `conditions`, `paths` and `filters`, and then `sorting`, `projection` and `pipeline`.
+//! Stands on bson_doc. doc_stages, doc_update, test_store and test_script stand on it. Read first:
+//! `comparing`, `equality`, `conditions`, `paths` and `filters`.
 #![tactic(auto)]
 
-mod batches;
 mod comparing;
 mod conditions;
 mod criteria;
@@ -24,20 +21,15 @@ mod meeting;
 mod numbers;
 mod owned;
 mod paths;
-mod pipeline;
-mod projection;
-mod sorting;
 
-pub use batches::{copies, next_batch, take_batch};
+pub use comparing::{field_order, has_place};
+pub use conditions::is_number;
 pub use equality::is_equal;
 pub use failure::{CommandError, Failure};
 pub use filters::{
     applicable, begins_with_operator, compared, filter_field, found_in, has_operators, is_match,
-    is_operator, matching,
+    is_operator, is_plain_name, matching,
 };
 pub use making::{count_value, set};
-pub use owned::{array_field, field, is_same, owned_body, whole_of};
-pub use paths::{first_step, is_index};
-pub use pipeline::after_stages;
-pub use projection::{is_plain_name, projected, projection_field};
-pub use sorting::{are_keys, sort_field, sort_in};
+pub use owned::{array_field, copies, field, is_same, owned_body, whole_of};
+pub use paths::{first_step, is_index, single_from};

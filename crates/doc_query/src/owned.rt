@@ -1,6 +1,6 @@
-//! Reads and compares values that own what they hold.
+//! Reads, compares and copies values that own what they hold.
 
-ghost use Rattle.std.specs.Prelude.{◌≡◌, IfErr, IfOk, MatchOption, None, Ok, Some, option_map};
+ghost use Rattle.std.specs.Prelude.{◌≡◌, IfErr, IfOk, MatchOption, None, Ok, Some, map, option_map};
 ghost use Rattle.bson_elem.specs.{Spells, Tree};
 ghost use Rattle.bson_raw.specs.{document_bytes, first_named};
 ghost use Rattle.bson_doc.specs.{coded_value, same, tree_of, value_of};
@@ -11,7 +11,7 @@ ghost use Rattle.doc_query.specs.Values.{count_of};
 use crate::failure::{CommandError, Failure};
 use bson_doc::{Array, Bson, DocRefusal, Document};
 use bson_raw::RawDocument;
-use std::alloc::Global;
+use std::alloc::{AllocError, Global};
 
 /// Returns the body of a command as a document of its own.
 ///
@@ -68,4 +68,19 @@ pub fn whole_of(value: &Bson) -> Option<usize>
         Bson::Int64(n) if *n >= 0 => Some(*n as usize),
         _ => None,
     }
+}
+
+/// Returns copies of documents, in order.
+///
+/// # Errors
+///
+/// Returns `AllocError` if memory runs out.
+pub fn copies(alloc: Global, documents: &[Bson]) -> Result<Vec<Bson>, AllocError>
+    ensures { IfOk result (λ vs. map value_of vs.items ≡ map value_of documents.now) }
+{
+    let mut copies = Vec::with_capacity(alloc, documents.len())?;
+    for document in documents {
+        copies.push(document.try_clone()?)?;
+    }
+    Ok(copies)
 }

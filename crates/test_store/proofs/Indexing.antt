@@ -7,7 +7,8 @@ use Rattle.bson_raw.specs.{TreeValue, document_value, leaf_value, with_first}
 use Rattle.bson_doc.specs.Document.{tree_of}
 use Rattle.doc_query.specs.declared.failure.CommandError.{CommandError}
 use Rattle.doc_query.specs.declared.failure.CommandError.TheVariants as errors
-use Rattle.doc_query.specs.{are_keys, or_error}
+use Rattle.doc_query.specs.{or_error}
+use Rattle.doc_stages.specs.{are_keys}
 use Rattle.test_store.specs.Indexes.{IndexView, has_index_fields, index_in, is_key_document, may_have, with_index, with_indexes}
 
 pub fields_with_first : (name : List ℕ) (v : TreeValue) (others : Tree) → has_index_fields (with_first name v others) ≡ (may_have name v && has_index_fields others)

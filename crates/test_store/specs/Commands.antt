@@ -14,8 +14,10 @@ use Rattle.doc_query.specs.declared.failure.CommandError.{CommandError}
 use Rattle.doc_query.specs.declared.failure.CommandError.TheVariants as errors
 use Rattle.doc_query.specs.declared.failure.Failure.{Failure}
 use Rattle.doc_query.specs.declared.failure.Failure.TheVariants.{OutOfMemory, Refused}
-use Rattle.doc_query.specs.{after_batch, after_stages, and_then, array_in, body_of, filter_field}
-use Rattle.doc_query.specs.{found, next_batch, or_error, projected, projection_field}
+use Rattle.doc_query.specs.{and_then, array_in, body_of, filter_field}
+use Rattle.doc_stages.specs.{after_batch, after_stages}
+use Rattle.doc_query.specs.{found, or_error}
+use Rattle.doc_stages.specs.{next_batch, projected, projection_field}
 use Rattle.doc_update.specs.{UpdatesView, after_deletes, after_updates}
 use Rattle.test_store.specs.Adding.{AddingView, gathered}
 use Rattle.test_store.specs.Answers.{build_pairs, counted_pairs, cursor_answer, dropped_pairs}

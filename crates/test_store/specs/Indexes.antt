@@ -11,7 +11,8 @@ use Rattle.bson_raw.specs.{TreeValue, document_value, first_named, leaf_value}
 use Rattle.bson_doc.specs.{value_of}
 use Rattle.doc_query.specs.declared.failure.CommandError.{CommandError}
 use Rattle.doc_query.specs.declared.failure.CommandError.TheVariants as errors
-use Rattle.doc_query.specs.{and_then, are_keys, equal, inner, int32, or_error, text, text_of}
+use Rattle.doc_query.specs.{and_then, equal, inner, int32, or_error, text, text_of}
+use Rattle.doc_stages.specs.{are_keys}
 use Rattle.doc_update.specs.{is_one_of}
 use Rattle.test_store.specs.declared.indexes.Index.{Index}
 use Rattle.test_store.specs.Options.{asks}

@@ -6,7 +6,8 @@ use Rattle.bson_doc.specs.{tree_of}
 use Rattle.doc_query.specs.declared.failure.CommandError.{CommandError}
 use Rattle.doc_query.specs.declared.failure.CommandError.TheVariants as errors
 use Rattle.test_store.specs.declared.selection.Selection.{Selection}
-use Rattle.doc_query.specs.{and_then, filter_field, found_in, sort_field, sorted_in}
+use Rattle.doc_query.specs.{and_then, filter_field, found_in}
+use Rattle.doc_stages.specs.{sort_field, sorted_in}
 use Rattle.test_store.specs.Fields.{namespace_at, number_field}
 use Rattle.test_store.specs.Held.{CollectionView, NamespaceView, documents_in, namespace_of}
 

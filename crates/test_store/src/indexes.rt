@@ -14,7 +14,8 @@ ghost use Rattle.test_store.specs.Options.{asks};
 
 use crate::answer::set_text;
 use bson_doc::{Bson, Document};
-use doc_query::{CommandError, Failure, are_keys, field, is_equal, set};
+use doc_query::{CommandError, Failure, field, is_equal, set};
+use doc_stages::are_keys;
 use std::alloc::{AllocError, Global};
 
 /// An index of a collection.

@@ -4,7 +4,7 @@
 //! request by a stated function of what it holds (`reply_to`), which says what it holds then, too.
 //! A command that errs changes nothing. It knows no connection: a server that holds one calls it.
 //!
-//! Stands on doc_query, doc_update, wire_msg and wire_peer. test_script and test_server stand on it.
+//! Stands on doc_stages, doc_update, wire_msg and wire_peer. test_script and test_server stand on it.
 //! Read first: `store`, then `commands`, and then `handling`.
 #![tactic(auto)]
 

@@ -14,7 +14,8 @@ use crate::namespace::Namespace;
 use crate::store::Store;
 use bson_doc::{Bson, Document};
 use bson_raw::RawDocument;
-use doc_query::{CommandError, Failure, filter_field, found_in, sort_field, sort_in, take_batch};
+use doc_query::{CommandError, Failure, filter_field, found_in};
+use doc_stages::{sort_field, sort_in, take_batch};
 use std::alloc::Global;
 
 /// Which documents are selected.

@@ -15,7 +15,8 @@ ghost use Rattle.test_store.specs.Taking.{IsNextBatch, IsOpenAt};
 use crate::indexes::{Index, first_indexes};
 use crate::namespace::{Namespace, NamespaceBuf};
 use bson_doc::Bson;
-use doc_query::{CommandError, Failure, next_batch};
+use doc_query::{CommandError, Failure};
+use doc_stages::next_batch;
 use std::alloc::{AllocError, Global};
 
 /// What is held of a namespace.

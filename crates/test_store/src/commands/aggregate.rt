@@ -13,7 +13,8 @@ use crate::fields::{DEFAULT_BATCH_SIZE, namespace_field};
 use crate::store::Store;
 use bson_doc::{Bson, Document};
 use bson_raw::RawDocument;
-use doc_query::{CommandError, Failure, after_stages, array_field, field, owned_body, whole_of};
+use doc_query::{CommandError, Failure, array_field, field, owned_body, whole_of};
+use doc_stages::after_stages;
 use std::alloc::Global;
 
 /// Returns the most documents of the first batch: the field `batchSize` of the field `cursor`, or

@@ -17,7 +17,8 @@ use crate::selection::{Selection, selected, selection_in};
 use crate::store::Store;
 use bson_doc::{Bson, Document};
 use bson_raw::RawDocument;
-use doc_query::{CommandError, Failure, next_batch, projected, projection_field};
+use doc_query::{CommandError, Failure};
+use doc_stages::{next_batch, projected, projection_field};
 use std::alloc::{AllocError, Global};
 
 /// What find asks for.

@@ -3,7 +3,8 @@ use Rattle.std.proofs.lemmas.List.{drop-map}
 use Rattle.bson_raw.specs.{TreeValue}
 use Rattle.bson_doc.specs.Bson.{value_of}
 use Rattle.bson_doc.specs.Document.{tree_of}
-use Rattle.doc_query.specs.{and_then, found_in, sorted_in}
+use Rattle.doc_query.specs.{and_then, found_in}
+use Rattle.doc_stages.specs.{sorted_in}
 use Rattle.test_store.specs.Selecting.{limited}
 use Rattle.test_store.proofs.Replies.{limited-map}
 use Rattle.test_store.proofs.selection.selected.Goals as goal

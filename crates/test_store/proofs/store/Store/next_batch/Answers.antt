@@ -5,7 +5,7 @@ use Rattle.std.proofs.Math.Seq.{map-set_same}
 use Rattle.bson_doc.specs.declared.bson_values.Bson.{Bson}
 use Rattle.bson_raw.specs.{TreeValue}
 use Rattle.bson_doc.specs.Bson.{value_of}
-use Rattle.doc_query.specs.{after_batch}
+use Rattle.doc_stages.specs.{after_batch}
 use Rattle.test_store.specs.declared.store.Cursor.{Cursor}
 use Rattle.test_store.specs.Held.{cursor_of, id_if_left, namespace_buf, namespace_of, with_left}
 use Rattle.test_store.specs.Taking.{IsOpenAt}

@@ -1,8 +1,0 @@
-use Rattle.std.proofs.Common.{◌≡◌, ◌+◌, drop, map}
-use Rattle.bson_doc.specs.{value_of}
-use Rattle.doc_query.specs.Batches.{fitting}
-use Rattle.doc_query.proofs.batches.fitting.Given as goal
-
-abbrev pub invariant-loop-index : goal.invariant-loop-index
-invariant-loop-index l =
-    l.index + fitting l.left (map value_of (drop l.index l.documents)) ≡ fitting l.room (map value_of l.documents)
