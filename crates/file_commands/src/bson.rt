@@ -20,7 +20,7 @@ use std::fmt;
 use std::io::{Read, Write};
 
 /// Why `bson` writes no more documents.
-#[derive(Clone, Copy, Debug, PartialEq, Eq)]
+#[derive(Clone, Copy)]
 pub enum TextStop {
     /// The next text is at fault.
     Fault(TextFault),

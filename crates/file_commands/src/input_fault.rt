@@ -15,7 +15,7 @@ use wire_text::write_msg_fault;
 
 /// A fault of an input. An `offset` counts from the input's first byte, or from the first of those
 /// that hexadecimal text spells.
-#[derive(Clone, Copy, Debug, PartialEq, Eq)]
+#[derive(Clone, Copy)]
 pub enum InputFault {
     /// The input isn't hexadecimal text. `offset` counts its digits, and no white space.
     Hex { offset: usize },

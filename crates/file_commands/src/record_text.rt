@@ -24,7 +24,7 @@ use wire_text::{write_frame, write_message_json};
 pub const FIRST_RECORD: usize = 8;
 
 /// How a record is written.
-#[derive(Clone, Copy, Debug, PartialEq, Eq)]
+#[derive(Clone, Copy)]
 pub enum RecordForm {
     /// A line for its head, and then the text of its message.
     Text,
