@@ -14,7 +14,7 @@ use Rattle.wire_peer.specs.declared.server_state.ServerCause.{ServerCause}
 use Rattle.wire_peer.specs.declared.server_state.ServerCause.TheVariants as causes
 use Rattle.wire_query.specs.{query_fault_text}
 use Rattle.wire_peer.specs.{LogEntry}
-use Rattle.test_store.specs.{first_name}
+use Rattle.command_parts.specs.{first_name}
 
 -- the text of a body, and the lines of the sequences
 abbrev pub payload_text : Content → List ℕ

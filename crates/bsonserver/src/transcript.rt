@@ -10,9 +10,9 @@ ghost use Rattle.bsonserver.specs.Transcript.{leave_text, new_text, outcome_text
 ghost use Rattle.bsonserver.specs.Transcript.{request_text, server_cause_text, told_text};
 
 use bson_text::{dump_to, quoted_to};
+use command_parts::name_of;
 use std::io;
 use std::io::Write;
-use test_store::name_of;
 use wire_front::FrontCause;
 use wire_hall::Leave;
 use wire_msg::{Payload, PayloadBuf};

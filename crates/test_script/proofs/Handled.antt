@@ -7,7 +7,7 @@ use Rattle.wire_msg.specs.{Content, body_alone}
 use Rattle.wire_peer.specs.{Asked, Does, Stops}
 use Rattle.wire_peer.specs.declared.handlers.HandlerStop.{HandlerStop}
 use Rattle.wire_peer.specs.declared.handlers.HandlerStop.TheVariants as stopped
-use Rattle.test_store.specs.{IsUnanswerable}
+use Rattle.command_parts.specs.{IsUnanswerable}
 use Rattle.test_script.specs.declared.action.Action.{Action}
 use Rattle.test_script.specs.declared.action.Action.TheVariants as actions
 use Rattle.test_script.specs.declared.scripted.Scripted.{Scripted}

@@ -7,7 +7,7 @@ use Rattle.bson_raw.specs.{TreeValue, document_value}
 use Rattle.bson_doc.specs.{Pairs, pairs_of, put, tree_of}
 use Rattle.doc_query.specs.{array, owned}
 use Rattle.wire_msg.specs.{Content, Sequence}
-use Rattle.test_store.specs.{in_sequence}
+use Rattle.command_parts.specs.{in_sequence}
 
 -- the documents of a sequence in an array at its identifier, if no name is repeated in them
 abbrev pub with_sequence : Sequence → Option Pairs → Option Pairs

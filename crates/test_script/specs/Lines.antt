@@ -6,7 +6,7 @@ use Rattle.bson_raw.specs.{TreeValue}
 use Rattle.bson_doc.specs.{tree_of}
 use Rattle.doc_query.specs.{filter_in}
 use Rattle.doc_query.specs.declared.failure.CommandError.{CommandError}
-use Rattle.test_store.specs.{error_pairs}
+use Rattle.command_parts.specs.{error_pairs}
 use Rattle.script_lines.specs.{IsNumber}
 use Rattle.test_script.specs.declared.action.Action.{Action}
 use Rattle.test_script.specs.declared.action.Action.TheVariants as actions

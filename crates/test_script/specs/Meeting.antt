@@ -3,7 +3,7 @@ use Rattle.std.specs.Prelude.{◌≡◌, ℕ, suc, ◌+◌, ◌<◌, ◌==◌, L
 use Rattle.std.specs.Prelude.{Option, Some, None, if◌then◌else◌, option_map, slice_get}
 use Rattle.bson_raw.specs.{TreeValue}
 use Rattle.wire_msg.specs.{Content}
-use Rattle.test_store.specs.{first_name}
+use Rattle.command_parts.specs.{first_name}
 use Rattle.test_script.specs.declared.action.Action.{Action}
 use Rattle.test_script.specs.declared.action.Flow.{Flow}
 use Rattle.test_script.specs.declared.action.Flow.TheVariants as flows

@@ -6,7 +6,7 @@ use Rattle.bson_raw.specs.{TreeValue}
 use Rattle.bson_doc.specs.{tree_of}
 use Rattle.doc_query.specs.{matches}
 use Rattle.wire_msg.specs.{Content}
-use Rattle.test_store.specs.{first_name}
+use Rattle.command_parts.specs.{first_name}
 use Rattle.test_script.specs.Asked.{asked_value}
 use Rattle.test_script.specs.declared.action.Action.{Action}
 use Rattle.test_script.specs.declared.action.Action.TheVariants as actions

@@ -7,13 +7,13 @@ ghost use Rattle.bson_doc.specs.{value_of};
 ghost use Rattle.doc_query.specs.{array};
 ghost use Rattle.wire_msg.specs.{Carries, Content, DocumentsAre, Sequence};
 ghost use Rattle.wire_peer.specs.{content_of};
-ghost use Rattle.test_store.specs.{first_name, in_sequence};
+ghost use Rattle.command_parts.specs.{first_name, in_sequence};
 ghost use Rattle.test_script.specs.Asked.{asked_value, with_sequence, with_sequences};
 
 use bson_doc::{Array, Bson, Document};
+use command_parts::{name_of, push_sequence};
 use doc_query::{Failure, owned_body, set};
 use std::alloc::{AllocError, Global};
-use test_store::{name_of, push_sequence};
 use wire_msg::{Documents, Payload};
 
 /// Returns the name of the command that a request asks for.

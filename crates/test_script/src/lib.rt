@@ -6,7 +6,7 @@
 //! then. What it does is its `Action`, and what becomes of the bytes of a reply is the `Flow` of
 //! that. `Delays` notes which connections a message is held of, and until when.
 //!
-//! Stands on doc_query, bson_json_read, script_lines and test_store. Read first: `rule`, then
+//! Stands on doc_query, bson_json_read, script_lines and command_parts. Read first: `rule`, then
 //! `script`, and then `parse`.
 #![tactic(auto)]
 

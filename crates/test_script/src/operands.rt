@@ -8,9 +8,9 @@ ghost use Rattle.test_script.specs.Written.{AreTwoWords, IsNothing, IsOneWord};
 use crate::token::cut_word;
 use crate::written::{quoted, read_document};
 use bson_doc::Document;
+use command_parts::error_answer;
 use script_lines::{LineError, number, number_i32};
 use std::alloc::Global;
-use test_store::error_answer;
 
 /// Returns true if nothing but spaces is left.
 pub(crate) fn is_nothing(text: &[u8]) -> bool

@@ -4,8 +4,8 @@ ghost use Rattle.std.specs.Prelude.{◌≡◌};
 
 use crate::action::Action;
 use crate::script::Script;
+use command_parts::put_answer;
 use std::alloc::Global;
-use test_store::put_answer;
 use wire_peer::{Answers, Handler, HandlerStop, Request};
 
 /// Answers as the rules of a script say, and where they say nothing, as another handler does.

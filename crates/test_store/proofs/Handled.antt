@@ -9,7 +9,8 @@ use Rattle.wire_peer.specs.declared.handlers.HandlerStop.{HandlerStop}
 use Rattle.wire_peer.specs.declared.handlers.HandlerStop.TheVariants.{Failed, OutOfMemory}
 use Rattle.test_store.specs.declared.store.Store.{Store}
 use Rattle.test_store.specs.Commands.{Reply, reply_to}
-use Rattle.test_store.specs.Handling.{Answered, IsUnanswerable, StopsAt, WantsMemory}
+use Rattle.command_parts.specs.{IsUnanswerable, WantsMemory}
+use Rattle.test_store.specs.Handling.{Answered, StopsAt}
 use Rattle.test_store.specs.Held.{store_of}
 
 pub answered : {E : Type 0} (s s' : Store) (a : Asked) (d : List (List ℕ × TreeValue)) (old new : List Content) (r : Result (Unit {0}) E)

@@ -1,5 +1,4 @@
 pub mod Places
-pub mod Inserting
 pub mod Sequences
 pub mod Cursors
 pub mod Sizes

@@ -8,7 +8,8 @@ use Rattle.doc_query.specs.declared.failure.CommandError.{CommandError}
 use Rattle.doc_query.specs.declared.failure.Failure.{Failure}
 use Rattle.doc_query.specs.declared.failure.Failure.TheVariants.{Refused}
 use Rattle.doc_stages.specs.{after_batch, next_batch}
-use Rattle.test_store.specs.Answers.{cursor_answer, refusal_pairs}
+use Rattle.command_parts.specs.{refusal_pairs}
+use Rattle.test_store.specs.Answers.{cursor_answer}
 use Rattle.test_store.specs.Commands.{IsCarriedOut, Reply, found_reply, left_of, settled}
 use Rattle.test_store.specs.Held.{NamespaceView, StoreView, namespace_text, opened, opened_id}
 use Rattle.test_store.specs.Selecting.{limited}

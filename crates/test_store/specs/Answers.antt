@@ -2,62 +2,12 @@
 -- Output).
 use Rattle.std.specs.Prelude.{ℕ, ℤ, pos, List, [], ◌∷◌, Bool, true, false, codes}
 use Rattle.std.specs.Prelude.{if◌then◌else◌}
-use Rattle.bson_elem.specs.declared.kinds.Kind.TheVariants as kinds
-use Rattle.bson_elem.specs.{raw_value}
-use Rattle.bson_raw.specs.{TreeValue, leaf_value}
+use Rattle.bson_raw.specs.{TreeValue}
 use Rattle.bson_doc.specs.{put}
 use Rattle.test_store.specs.declared.answer.Batch.{Batch}
 use Rattle.test_store.specs.declared.answer.Batch.TheVariants.{First, Next}
-use Rattle.doc_query.specs.declared.failure.CommandError.{CommandError}
-use Rattle.doc_query.specs.{array, code_name_of, code_of, count_value, inner, int32, int64, text}
-use Rattle.doc_query.specs.{truth, words_of}
-
--- the double 0
-abbrev pub double_zero : TreeValue
-double_zero = leaf_value kinds.Double (raw_value (0 ∷ 0 ∷ 0 ∷ 0 ∷ 0 ∷ 0 ∷ 0 ∷ 0 ∷ []))
-
--- the double 1
-abbrev pub double_one : TreeValue
-double_one = leaf_value kinds.Double (raw_value (0 ∷ 0 ∷ 0 ∷ 0 ∷ 0 ∷ 0 ∷ 240 ∷ 63 ∷ []))
-
--- ---- answers
-
--- `ok` alone
-abbrev pub ok_alone : List (List ℕ × TreeValue)
-ok_alone = (codes "ok", double_one) ∷ []
-
--- an error by its words, its number and its name
-abbrev pub error_pairs : List ℕ → ℤ → List ℕ → List (List ℕ × TreeValue)
-error_pairs words code name =
-    (codes "ok", double_zero) ∷ (codes "errmsg", text words) ∷ (codes "code", int32 code)
-    ∷ (codes "codeName", text name) ∷ []
-
--- the answer to a refused command
-abbrev pub refusal_pairs : CommandError → List (List ℕ × TreeValue)
-refusal_pairs e = error_pairs (words_of e) (code_of e) (code_name_of e)
-
--- the field that says that the server takes writes, by whether an older form of hello asks for it
-abbrev pub primary_name : Bool → List ℕ
-primary_name legacy = if legacy then codes "ismaster" else codes "isWritablePrimary"
-
--- the answer to hello
-abbrev pub hello_pairs : Bool → List (List ℕ × TreeValue)
-hello_pairs legacy =
-    (codes "helloOk", truth true) ∷ (primary_name legacy, truth true)
-    ∷ (codes "maxBsonObjectSize", int32 (pos 16777216))
-    ∷ (codes "maxMessageSizeBytes", int32 (pos 48000000))
-    ∷ (codes "maxWriteBatchSize", int32 (pos 100000)) ∷ (codes "minWireVersion", int32 (pos 0))
-    ∷ (codes "maxWireVersion", int32 (pos 13)) ∷ (codes "readOnly", truth false) ∷ ok_alone
-
--- the numbers of the version
-abbrev pub version_parts : List TreeValue
-version_parts = int32 (pos 5) ∷ int32 (pos 0) ∷ int32 (pos 0) ∷ int32 (pos 0) ∷ []
-
--- the answer to buildInfo
-abbrev pub build_pairs : List (List ℕ × TreeValue)
-build_pairs =
-    (codes "version", text (codes "5.0.0")) ∷ (codes "versionArray", array version_parts)
-    ∷ (codes "maxBsonObjectSize", int32 (pos 16777216)) ∷ ok_alone
+use Rattle.doc_query.specs.{array, count_value, inner, int64, text, truth}
+use Rattle.command_parts.specs.{double_one, ok_alone}
 
 -- the cursors that were closed, and the values that aren't the id of an open one
 abbrev pub killed_pairs : List TreeValue → List TreeValue → List (List ℕ × TreeValue)

@@ -4,7 +4,7 @@ use Rattle.std.specs.Prelude.{Result, Ok, Err}
 use Rattle.std.specs.Prelude.{Option, Some, None, codes, length, map, ◌-◌}
 use Rattle.std.specs.Prelude.{if◌then◌else◌, nat_eq}
 use Rattle.std.specs.Str.{bytes_eq}
-use Rattle.bson_elem.specs.{Tree, inner_pair, leaf_pair, no_pairs}
+use Rattle.bson_elem.specs.{Tree}
 use Rattle.bson_raw.specs.{TreeValue, first_named}
 use Rattle.wire_msg.specs.{Content}
 use Rattle.test_store.specs.declared.answer.Batch.TheVariants.{First, Next}
@@ -14,17 +14,17 @@ use Rattle.doc_query.specs.declared.failure.CommandError.{CommandError}
 use Rattle.doc_query.specs.declared.failure.CommandError.TheVariants as errors
 use Rattle.doc_query.specs.declared.failure.Failure.{Failure}
 use Rattle.doc_query.specs.declared.failure.Failure.TheVariants.{OutOfMemory, Refused}
-use Rattle.doc_query.specs.{and_then, array_in, body_of, filter_field}
-use Rattle.doc_stages.specs.{after_batch, after_stages}
-use Rattle.doc_query.specs.{found, or_error}
-use Rattle.doc_stages.specs.{next_batch, projected, projection_field}
+use Rattle.doc_query.specs.{and_then, array_in, body_of, filter_field, found, or_error}
+use Rattle.doc_stages.specs.{after_batch, after_stages, next_batch, projected, projection_field}
 use Rattle.doc_update.specs.{UpdatesView, after_deletes, after_updates}
+use Rattle.command_parts.specs.{brought, build_pairs, error_pairs, first_name, hello_pairs}
+use Rattle.command_parts.specs.{ok_alone, refusal_pairs}
 use Rattle.test_store.specs.Adding.{AddingView, gathered}
-use Rattle.test_store.specs.Answers.{build_pairs, counted_pairs, cursor_answer, dropped_pairs}
+use Rattle.test_store.specs.Answers.{counted_pairs, cursor_answer, dropped_pairs}
 use Rattle.test_store.specs.Answers.{created_pairs, database_listing, databases_pairs}
-use Rattle.test_store.specs.Answers.{dropped_database_pairs, error_pairs, hello_pairs}
+use Rattle.test_store.specs.Answers.{dropped_database_pairs}
 use Rattle.test_store.specs.Answers.{killed_pairs}
-use Rattle.test_store.specs.Answers.{listing, ok_alone, refusal_pairs, updated_pairs, written_pairs}
+use Rattle.test_store.specs.Answers.{listing, updated_pairs, written_pairs}
 use Rattle.test_store.specs.Fields.{first_batch_size, first_size, flag_field, id_field, list_size}
 use Rattle.test_store.specs.Fields.{name_only_field}
 use Rattle.test_store.specs.Fields.{namespace_at, next_batch_size, text_field}
@@ -35,7 +35,6 @@ use Rattle.test_store.specs.Held.{database_names, has_database, namespace_text, 
 use Rattle.test_store.specs.Held.{opened_id, with_any}
 use Rattle.test_store.specs.Held.{with_left, with_replaced, without_collection, without_database}
 use Rattle.test_store.specs.Indexes.{IndexView, index_listing, with_indexes}
-use Rattle.test_store.specs.Inserted.{brought}
 use Rattle.test_store.specs.Options.{first_unread}
 use Rattle.test_store.specs.Selecting.{SelectionView, selected, selection_in}
 
@@ -353,12 +352,6 @@ list_indexes s t =
     Ok (found_reply s n (map index_listing is) count false))))
 
 -- ---- all commands
-
--- the name of the first field of a body
-abbrev pub first_name : Tree → List ℕ
-first_name no_pairs = []
-first_name (leaf_pair n k v ps) = n
-first_name (inner_pair n k b inner ps) = n
 
 -- the command with this name
 abbrev pub command_of : List ℕ → Command

@@ -1,18 +1,16 @@
-//! Makes the parts of answers.
+//! Makes the answers that several commands give.
 
-ghost use Rattle.std.specs.Prelude.{◌≡◌, ◌<◌, ◌^◌, ◌∷◌, IfOk, OnOk, codes, map, string_bytes};
-ghost use Rattle.bson_doc.specs.{value_of, put};
-ghost use Rattle.doc_query.specs.{array, count_value, text};
+ghost use Rattle.std.specs.Prelude.{◌≡◌, ◌<◌, ◌^◌, ◌∷◌, IfOk, codes, map, string_bytes};
+ghost use Rattle.bson_doc.specs.{value_of};
+ghost use Rattle.doc_query.specs.{array, count_value};
+ghost use Rattle.command_parts.specs.{ok_alone};
 ghost use Rattle.test_store.specs.Answers.{batch_name, counted_pairs, cursor_answer, cursor_pairs};
-ghost use Rattle.test_store.specs.Answers.{double_one, error_pairs, ok_alone, refusal_pairs};
 ghost use Rattle.test_store.specs.Answers.{written_pairs};
 
 use bson_doc::{Array, Bson, Document};
-use doc_query::{CommandError, count_value, set};
+use command_parts::set_ok;
+use doc_query::{count_value, set};
 use std::alloc::{AllocError, Global};
-
-/// The number 1 as a double.
-const ONE: [u8; 8] = [0, 0, 0, 0, 0, 0, 0xf0, 0x3f];
 
 /// Which batch of a cursor an answer has.
 #[derive(Clone, Copy, Debug, PartialEq, Eq)]
@@ -33,35 +31,6 @@ impl Batch {
             Batch::Next => "nextBatch",
         }
     }
-}
-
-/// Sets a field in an answer to a text.
-pub fn set_text(
-    alloc: Global,
-    answer: &mut Document,
-    name: &str,
-    words: &str,
-) -> Result<(), AllocError>
-    ensures { OnOk result (answer.new ≡ put name.now (text words.now) answer.old) }
-{
-    let words = String::from_str(alloc, words)?;
-    set(alloc, answer, name, Bson::String(words))
-}
-
-/// Sets the field `ok` in an answer to 1.
-pub fn set_ok(alloc: Global, answer: &mut Document) -> Result<(), AllocError>
-    ensures { OnOk result (answer.new ≡ put (codes "ok") double_one answer.old) }
-{
-    set(alloc, answer, "ok", Bson::Double(ONE))
-}
-
-/// Makes the answer with `ok` alone, which says that a command was carried out.
-pub fn ok_alone(alloc: Global) -> Result<Document, AllocError>
-    ensures { IfOk result (λ d. d ≡ ok_alone) }
-{
-    let mut answer = Document::new(alloc);
-    set_ok(alloc, &mut answer)?;
-    Ok(answer)
 }
 
 /// Makes the answer with a number of documents in its field `n`.
@@ -104,30 +73,6 @@ pub fn written_answer(
     } else {
         failed_answer(alloc, count, errors)
     }
-}
-
-/// Makes the answer for an error.
-pub fn error_answer(
-    alloc: Global,
-    words: &str,
-    code: i32,
-    code_name: &str,
-) -> Result<Document, AllocError>
-    ensures { IfOk result (λ d. d ≡ error_pairs words.now code code_name.now) }
-{
-    let mut answer = Document::new(alloc);
-    set(alloc, &mut answer, "ok", Bson::Double([0; 8]))?;
-    set_text(alloc, &mut answer, "errmsg", words)?;
-    set(alloc, &mut answer, "code", Bson::Int32(code))?;
-    set_text(alloc, &mut answer, "codeName", code_name)?;
-    Ok(answer)
-}
-
-/// Makes the answer to a refused command.
-pub fn refusal_answer(alloc: Global, error: CommandError) -> Result<Document, AllocError>
-    ensures { IfOk result (λ d. d ≡ refusal_pairs error) }
-{
-    error_answer(alloc, error.words(), error.code(), error.code_name())
 }
 
 /// Makes the field `cursor` of an answer: a batch of documents, the id of the cursor that has more

@@ -1,7 +1,6 @@
 //! Carries out the commands that the server knows. Each has a module of its own.
 
 mod aggregate;
-mod build_info;
 mod count;
 mod create_indexes;
 mod delete;
@@ -9,7 +8,6 @@ mod drop_collection;
 mod drop_database;
 mod find;
 mod get_more;
-mod hello;
 mod insert;
 mod kill_cursors;
 mod list_collections;
@@ -18,20 +16,17 @@ mod list_indexes;
 mod update;
 
 ghost use Rattle.std.specs.Prelude.{◌≡◌, ◌≢◌, IfOk, OnErr};
-ghost use Rattle.bson_elem.specs.{Spells, Tree};
-ghost use Rattle.bson_raw.specs.{document_bytes};
 ghost use Rattle.wire_msg.specs.{Carries, Content};
-ghost use Rattle.test_store.specs.Commands.{IsCarriedOut, command_of, first_name, reply_to, run};
+ghost use Rattle.command_parts.specs.{first_name};
+ghost use Rattle.test_store.specs.Commands.{IsCarriedOut, command_of, reply_to, run};
 ghost use Rattle.test_store.specs.Commands.{settled, unknown_pairs, unread_pairs};
 ghost use Rattle.test_store.specs.Held.{store_of};
 
-use crate::answer::{error_answer, ok_alone, refusal_answer};
 use crate::options::first_unread;
 use crate::store::Store;
 use aggregate::aggregate;
 use bson_doc::Document;
-use bson_raw::RawDocument;
-use build_info::build_info;
+use command_parts::{build_info, error_answer, hello, name_of, ok_alone, refusal_answer};
 use count::count;
 use create_indexes::create_indexes;
 use delete::delete;
@@ -40,7 +35,6 @@ use drop_collection::drop_collection;
 use drop_database::drop_database;
 use find::find;
 use get_more::get_more;
-use hello::hello;
 use insert::insert;
 use kill_cursors::kill_cursors;
 use list_collections::list_collections;
@@ -100,16 +94,6 @@ fn command_of(name: &str) -> Command
         "createIndexes" => Command::CreateIndexes,
         "listIndexes" => Command::ListIndexes,
         _ => Command::Unknown,
-    }
-}
-
-/// Returns the name of the command that a body asks for, which is the name of its first field.
-pub fn name_of(body: RawDocument<'_>) -> &str
-    ensures { (t : Tree) → Spells t (document_bytes body.entry) → result.now ≡ first_name t }
-{
-    match body.iter().next() {
-        Some((name, _)) => name,
-        None => "",
     }
 }
 

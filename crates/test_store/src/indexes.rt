@@ -12,8 +12,8 @@ ghost use Rattle.test_store.specs.Indexes.{with_index};
 ghost use Rattle.test_store.specs.Indexes.{with_indexes};
 ghost use Rattle.test_store.specs.Options.{asks};
 
-use crate::answer::set_text;
 use bson_doc::{Bson, Document};
+use command_parts::set_text;
 use doc_query::{CommandError, Failure, field, is_equal, set};
 use doc_stages::are_keys;
 use std::alloc::{AllocError, Global};

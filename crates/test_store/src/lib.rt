@@ -4,7 +4,7 @@
 //! request by a stated function of what it holds (`reply_to`), which says what it holds then, too.
 //! A command that errs changes nothing. It knows no connection: a server that holds one calls it.
 //!
-//! Stands on doc_stages, doc_update, wire_msg and wire_peer. test_script and test_server stand on it.
+//! Stands on command_parts, doc_stages, doc_update, wire_msg and wire_peer. test_server stands on it.
 //! Read first: `store`, then `commands`, and then `handling`.
 #![tactic(auto)]
 
@@ -14,14 +14,9 @@ mod commands;
 mod fields;
 mod handling;
 mod indexes;
-mod inserted;
 mod namespace;
 mod options;
 mod selection;
 mod store;
 
-pub use answer::error_answer;
-pub use commands::name_of;
-pub use handling::put_answer;
-pub use inserted::push_sequence;
 pub use store::Store;

@@ -8,13 +8,13 @@ ghost use Rattle.test_store.specs.Commands.{IsCarriedOut, create_indexes, no_ind
 ghost use Rattle.test_store.specs.Held.{indexes_in, namespace_of, store_of};
 ghost use Rattle.test_store.specs.Indexes.{index_view};
 
-use crate::answer::{error_answer, set_ok};
 use crate::fields::namespace_field;
 use crate::indexes::{Index, add_indexes, copies, first_indexes};
 use crate::namespace::Namespace;
 use crate::store::Store;
 use bson_doc::{Bson, Document};
 use bson_raw::RawDocument;
+use command_parts::{error_answer, set_ok};
 use doc_query::{CommandError, Failure, array_field, count_value, owned_body, set};
 use std::alloc::{AllocError, Global};
 

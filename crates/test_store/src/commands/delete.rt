@@ -7,9 +7,9 @@ ghost use Rattle.test_store.specs.Held.{store_of};
 
 use crate::answer::written_answer;
 use crate::fields::{flag_field, namespace_field};
-use crate::inserted::brought_documents;
 use crate::store::Store;
 use bson_doc::Document;
+use command_parts::brought_documents;
 use doc_query::{CommandError, Failure};
 use doc_update::after_deletes;
 use std::alloc::Global;

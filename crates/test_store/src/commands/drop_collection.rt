@@ -7,12 +7,12 @@ ghost use Rattle.test_store.specs.Answers.{dropped_pairs};
 ghost use Rattle.test_store.specs.Commands.{IsCarriedOut, drop_collection};
 ghost use Rattle.test_store.specs.Held.{namespace_of, namespace_text, store_of};
 
-use crate::answer::set_ok;
 use crate::fields::namespace_field;
 use crate::namespace::Namespace;
 use crate::store::Store;
 use bson_doc::{Bson, Document};
 use bson_raw::RawDocument;
+use command_parts::set_ok;
 use doc_query::{CommandError, Failure, count_value, set};
 use std::alloc::{AllocError, Global};
 

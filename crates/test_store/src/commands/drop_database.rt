@@ -7,11 +7,11 @@ ghost use Rattle.test_store.specs.Answers.{dropped_database_pairs};
 ghost use Rattle.test_store.specs.Commands.{IsCarriedOut, drop_database};
 ghost use Rattle.test_store.specs.Held.{store_of};
 
-use crate::answer::{ok_alone, set_ok, set_text};
 use crate::fields::text_field;
 use crate::store::{Store, has_database};
 use bson_doc::Document;
 use bson_raw::RawDocument;
+use command_parts::{ok_alone, set_ok, set_text};
 use doc_query::{CommandError, Failure};
 use std::alloc::{AllocError, Global};
 

@@ -8,12 +8,12 @@ ghost use Rattle.test_store.specs.Answers.{killed_pairs};
 ghost use Rattle.test_store.specs.Commands.{IsCarriedOut, kill_cursors, kill_reply};
 ghost use Rattle.test_store.specs.Held.{namespace_of, store_of};
 
-use crate::answer::set_ok;
 use crate::fields::namespace_field;
 use crate::namespace::Namespace;
 use crate::store::Store;
 use bson_doc::{Array, Bson, Document};
 use bson_raw::RawDocument;
+use command_parts::set_ok;
 use doc_query::{CommandError, Failure, array_field, owned_body, set};
 use std::alloc::{AllocError, Global};
 

@@ -9,13 +9,13 @@ ghost use Rattle.test_store.specs.Answers.{listing};
 ghost use Rattle.test_store.specs.Commands.{IsCarriedOut, list_collections, list_reply, listings};
 ghost use Rattle.test_store.specs.Held.{collection_of, store_of};
 
-use crate::answer::set_text;
 use crate::commands::find::answer_found;
 use crate::fields::{list_size, name_only_field, text_field};
 use crate::namespace::Namespace;
 use crate::store::{Collection, Store};
 use bson_doc::{Bson, Document};
 use bson_raw::RawDocument;
+use command_parts::set_text;
 use doc_query::{CommandError, Failure, filter_field, matching, set};
 use std::alloc::{AllocError, Global};
 

@@ -10,11 +10,11 @@ ghost use Rattle.test_store.specs.Commands.{IsCarriedOut, database_listings, dat
 ghost use Rattle.test_store.specs.Commands.{list_databases};
 ghost use Rattle.test_store.specs.Held.{collection_of, store_of};
 
-use crate::answer::{set_ok, set_text};
 use crate::fields::name_only_field;
 use crate::store::{Collection, Store, has_database};
 use bson_doc::{Array, Bson, Document};
 use bson_raw::RawDocument;
+use command_parts::{set_ok, set_text};
 use doc_query::{Failure, filter_field, matching, set};
 use std::alloc::{AllocError, Global};
 

@@ -8,11 +8,10 @@ ghost use Rattle.test_store.specs.Answers.{put_any, updated_pairs};
 ghost use Rattle.test_store.specs.Commands.{IsCarriedOut, update};
 ghost use Rattle.test_store.specs.Held.{store_of};
 
-use crate::answer::set_ok;
 use crate::fields::{flag_field, namespace_field};
-use crate::inserted::brought_documents;
 use crate::store::Store;
 use bson_doc::{Array, Bson, Document};
+use command_parts::{brought_documents, set_ok};
 use doc_query::{CommandError, Failure, count_value, set};
 use doc_update::{Updates, after_updates};
 use std::alloc::{AllocError, Global};

@@ -2,7 +2,7 @@ use Rattle.std.proofs.Common.{◌≡◌}
 use base.Stored.{Coded-set}
 use Rattle.bson_elem.specs.{coded_text}
 use Rattle.wire_peer.proofs.Lemmas.{of_content}
-use Rattle.test_store.specs.{first_name}
+use Rattle.command_parts.specs.{first_name}
 use Rattle.test_script.proofs.asked.asked_name.Goals as goal
 
 pub returns : goal.returns
