@@ -51,7 +51,7 @@ pub trait Engine {
 ///
 /// Beside the input and what the engine takes, the only memory is one buffer. It is taken before
 /// the first byte is written.
-pub fn run<E: Engine, R: Read, W: Write>(
+pub fn run_engine<E: Engine, R: Read, W: Write>(
     alloc: Global,
     engine: &E,
     reader: &mut R,

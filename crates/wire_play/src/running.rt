@@ -6,7 +6,7 @@ ghost use Rattle.command_run.specs.{AppendsText, is_done, is_fault, is_there, or
 ghost use Rattle.wire_play.specs.Running.{ScriptText, end_of_stop, last_of};
 
 use crate::playing::{PlayStop, play};
-use command_run::{Engine, RunEnd, run, write_fault};
+use command_run::{Engine, RunEnd, run_engine, write_fault};
 use std::alloc::Global;
 use std::io::{Read, Write};
 
@@ -70,5 +70,5 @@ pub fn run_play<R: Read, W: Write>(alloc: Global, reader: &mut R, writer: &mut W
         Keeps (W.contents writer.old) (W.contents writer.new) }
 {
     let play = Play { alloc };
-    run(alloc, &play, reader, writer)
+    run_engine(alloc, &play, reader, writer)
 }
