@@ -1,6 +1,6 @@
 """Reads a file of records: the signature, and then records back to back, each a head of 20 bytes and a message of any opCode.
 
-It is written from the form of the file, which docs/reference/wire_record.md tells, and not from the code.
+It is written from the form of the file, which docs/reference/wire_frames.md tells, and not from the code.
 """
 
 import struct

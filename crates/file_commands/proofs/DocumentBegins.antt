@@ -8,7 +8,7 @@ use Rattle.bson_elem.specs.Codes.{known, known_kind}
 use Rattle.bson_elem.specs.Kinds.{byte_of, kind_of}
 use Rattle.bson_elem.specs.Spelling.{Spells, elements, little}
 use Rattle.bson_elem.specs.Trees.{Tree, inner_pair, leaf_pair, no_pairs}
-use Rattle.wire_record.specs.{signature}
+use Rattle.wire_frames.specs.{signature}
 
 -- the fifth byte of the signature is that of no kind
 no_kind : (k : Kind) → byte_of k ≡ 82 → ⊥

@@ -2,7 +2,7 @@
 use Rattle.std.proofs.Common.{◌≡◌, ◌++◌, ℕ, List, Bool, refl, sym, ◌∙◌}
 use Rattle.bson_elem.specs.Spelling.{IsBytes}
 use Rattle.wire_text.proofs.Lemmas.{one_of_frame}
-use Rattle.wire_frame.proofs.Lemmas.{lacking_not_whole, one_front}
+use Rattle.wire_frames.proofs.Lemmas.{lacking_not_whole, one_front}
 use Rattle.file_commands.specs.Any.{AnyText, frames_of}
 use Rattle.file_commands.specs.Output.{nothing}
 use Rattle.file_commands.proofs.FrameReadings.{frames_kind}

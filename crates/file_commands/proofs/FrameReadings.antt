@@ -1,9 +1,9 @@
 -- Messages of any opCode, as items of one kind, and how a reader of them is fed.
 use Rattle.std.proofs.Common.{◌≡◌, ◌≢◌, ◌≤◌, ◌++◌, ℕ, List, length, take, min, refl, ap, ◌∙◌, arith, length-append, length-take}
 use Rattle.wire_msg.specs.{number_at}
-use Rattle.wire_frame.specs.Frames.{of_header, of_frame}
-use Rattle.wire_frame.specs.{IsWholeFrame, WantsMore}
-use Rattle.wire_frame.proofs.Lemmas.{lacking_longer, number_front, wants_not_lacking, wants_not_whole, whole_size}
+use Rattle.wire_frames.specs.Frames.{of_header, of_frame}
+use Rattle.wire_frames.specs.{IsWholeFrame, WantsMore}
+use Rattle.wire_frames.proofs.Lemmas.{lacking_longer, number_front, wants_not_lacking, wants_not_whole, whole_size}
 use Rattle.file_commands.specs.Any.{IsOpenFrame, frames_of}
 use Rattle.file_commands.proofs.ItemReadings.{IsKind, item_alone}
 

@@ -6,7 +6,7 @@ use Rattle.std.proofs.lemmas.Bool.{cases_Bool, cases_lt}
 use Rattle.std.proofs.lemmas.Slice.Eq.{bytes_eq-Decides}
 use Rattle.std.proofs.Math.Seq.{take-append-add, take-append_seam, take-length}
 use Rattle.std.proofs.lemmas.List.{append_cancel_left, nil_from_length, take-append-le}
-use Rattle.wire_record.specs.{signature}
+use Rattle.wire_frames.specs.{signature}
 use Rattle.file_commands.specs.declared.or_records.OrRecordsReader.{OrRecordsReader}
 use Rattle.file_commands.specs.declared.or_records.Sort.{Sort}
 use Rattle.file_commands.specs.declared.or_records.Sort.TheVariants.{Undecided, Records, Others}

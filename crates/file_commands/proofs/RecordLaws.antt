@@ -2,12 +2,12 @@
 use Rattle.std.proofs.Common.{◌≡◌, inl, inr, ◌+◌, ◌++◌, ℕ, List, Bool, refl, sym, ap, subst, ◌∙◌}
 use Rattle.bson_elem.specs.Spelling.{IsBytes}
 use Rattle.bson_elem.proofs.Lemmas.{IsBytes-after, IsBytes-drop}
-use Rattle.wire_record.specs.declared.fault.RecordFault.{RecordFault}
-use Rattle.wire_record.specs.declared.head.Direction.{Direction}
-use Rattle.wire_record.specs.declared.head.Direction.TheVariants.{FromServer, ToServer}
-use Rattle.wire_record.specs.declared.head.RecordHead.{RecordHead}
-use Rattle.wire_record.specs.{HasHead, IsRecord, direction_number, message_of, signature}
-use Rattle.wire_record.proofs.Lemmas.{fault_once, faulty_not_whole, one_front}
+use Rattle.wire_frames.specs.declared.fault.RecordFault.{RecordFault}
+use Rattle.wire_frames.specs.declared.head.Direction.{Direction}
+use Rattle.wire_frames.specs.declared.head.Direction.TheVariants.{FromServer, ToServer}
+use Rattle.wire_frames.specs.declared.head.RecordHead.{RecordHead}
+use Rattle.wire_frames.specs.{HasHead, IsRecord, direction_number, message_of, signature}
+use Rattle.wire_frames.proofs.Lemmas.{fault_once, faulty_not_whole, one_record as one_front}
 use Rattle.wire_text.proofs.Lemmas.{one_of_frame}
 use Rattle.file_commands.specs.declared.record_text.RecordForm.TheVariants as form
 use Rattle.file_commands.specs.InputFault.{record_line}

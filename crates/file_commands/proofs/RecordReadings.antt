@@ -1,9 +1,9 @@
 -- Records, as items of one kind, and how a reader of them is fed.
 use Rattle.std.proofs.Common.{◌≡◌, ◌≢◌, ◌≤◌, ◌++◌, ℕ, List, length, take, min, refl, ap, ◌∙◌, arith, length-append, length-drop, length-take}
-use Rattle.wire_frame.specs.Frames as frames
-use Rattle.wire_record.specs.Records.{of_head, of_message}
-use Rattle.wire_record.specs.{IsWholeRecord, WantsMore, message_of}
-use Rattle.wire_record.proofs.Lemmas.{drop_front, faulty_longer, wants_not_faulty, wants_not_whole, whole_parts}
+use Rattle.wire_frames.specs.Frames as frames
+use Rattle.wire_frames.specs.Records.{of_head, of_message}
+use Rattle.wire_frames.specs.Records.{IsWholeRecord, WantsMore, message_of}
+use Rattle.wire_frames.proofs.Lemmas.{drop_front, faulty_longer, wants_not_faulty, wants_no_record as wants_not_whole, whole_parts}
 use Rattle.file_commands.specs.declared.record_text.RecordForm.{RecordForm}
 use Rattle.file_commands.specs.Records.{IsOpenRecord, records_of}
 use Rattle.file_commands.proofs.FrameReadings.{within_frame}

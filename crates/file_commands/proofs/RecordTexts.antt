@@ -4,11 +4,11 @@ use Rattle.std.specs.Fmt.{decimal}
 use Rattle.std.specs.Io.KnownBytes.{Appends}
 use Rattle.std.proofs.KnownBytes.{Appends-trans}
 use Rattle.bson_json.specs.declared.mode.Mode.{Mode}
-use Rattle.wire_frame.specs.declared.opcode.Opcode.{Opcode}
-use Rattle.wire_frame.specs.declared.opcode.Opcode.TheVariants.{Compressed, Msg, Other, Query, Reply}
+use Rattle.wire_frames.specs.declared.opcode.Opcode.{Opcode}
+use Rattle.wire_frames.specs.declared.opcode.Opcode.TheVariants.{Compressed, Msg, Other, Query, Reply}
 use Rattle.wire_msg.specs.{header_of}
-use Rattle.wire_record.specs.declared.head.RecordHead.{RecordHead}
-use Rattle.wire_record.specs.{HasHead, head_of, message_of}
+use Rattle.wire_frames.specs.declared.head.RecordHead.{RecordHead}
+use Rattle.wire_frames.specs.{HasHead, head_of, message_of}
 use Rattle.wire_text.specs.{IsFrameText}
 use Rattle.file_commands.specs.declared.json.Layout.{Layout}
 use Rattle.file_commands.specs.declared.record_text.RecordForm.TheVariants.{Text, Json}

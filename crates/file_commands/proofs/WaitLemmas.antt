@@ -4,9 +4,9 @@ use Rattle.std.specs.List.{concat}
 use Rattle.bson_stream.specs.Standing.{in_document}
 use Rattle.bson_stream.specs as stream
 use Rattle.bson_stream.proofs.Lemmas.{open_front}
-use Rattle.wire_frame.specs.Frames.{of_header}
+use Rattle.wire_frames.specs.Frames.{of_header}
 use Rattle.wire_msg.specs.Standing.{IsOpen, in_header}
-use Rattle.wire_record.specs.{signature}
+use Rattle.wire_frames.specs.{signature}
 use Rattle.file_commands.specs.declared.msg.MessageForm.{MessageForm}
 use Rattle.file_commands.specs.Any.{IsOpenFrame}
 use Rattle.file_commands.specs.Documents.{TextRule}

@@ -1,7 +1,7 @@
 -- What `msg --any` writes for messages of any opCode back to back.
 use Rattle.std.specs.Prelude.{◌≡◌, ℕ, List}
 use Rattle.wire_msg.specs.declared.fault.MsgCause.TheVariants.{Length}
-use Rattle.wire_frame.specs.{IsFrame, LacksFrame, WantsMore}
+use Rattle.wire_frames.specs.{IsFrame, LacksFrame, WantsMore}
 use Rattle.wire_text.specs.{IsFrameText, msg_fault_line}
 use Rattle.file_commands.specs.InputFault.{ended_inside_line}
 use Rattle.file_commands.specs.Output.{TextOf, nothing}

@@ -3,8 +3,8 @@ use Rattle.std.specs.Prelude.{ℕ, ◌+◌, List, ◌++◌, codes, Option, None,
 use Rattle.bson_elem.specs.declared.fault.BsonFault.{BsonFault}
 use Rattle.bson_elem.specs.{bson_fault_text}
 use Rattle.command_run.specs.{fault_line}
-use Rattle.wire_record.specs.declared.fault.RecordCause.{RecordCause}
-use Rattle.wire_record.specs.{record_fault_text}
+use Rattle.wire_frames.specs.declared.fault.RecordCause.{RecordCause}
+use Rattle.wire_frames.specs.{record_fault_text}
 use Rattle.wire_text.specs.{msg_fault_line}
 use Rattle.file_commands.specs.declared.input_fault.InputFault.{InputFault}
 use Rattle.file_commands.specs.declared.input_fault.InputFault.TheVariants.{Hex, Bson, TooLarge}

@@ -1,7 +1,7 @@
 -- What is written of an input that is a file of records, if it begins as one, and else what another
 -- command writes.
 use Rattle.std.specs.Prelude.{◌≡◌, ◌⊎◌, ℕ, List, ◌++◌}
-use Rattle.wire_record.specs.{signature}
+use Rattle.wire_frames.specs.{signature}
 use Rattle.file_commands.specs.declared.msg.MessageForm.{MessageForm}
 use Rattle.file_commands.specs.declared.msg.MessageForm.TheVariants.{Text, Json}
 use Rattle.file_commands.specs.declared.json.Layout.TheVariants.{Lines}

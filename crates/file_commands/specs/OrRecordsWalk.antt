@@ -1,6 +1,6 @@
 -- What is told of an input that is told by its first bytes, piece by piece.
 use Rattle.std.specs.Prelude.{◌≡◌, ℕ, ◌<◌, List, [], ◌++◌, take, Option}
-use Rattle.wire_record.specs.{signature}
+use Rattle.wire_frames.specs.{signature}
 use Rattle.file_commands.specs.declared.or_records.OrRecordsReader.{OrRecordsReader}
 use Rattle.file_commands.specs.declared.or_records.Sort.{Sort}
 use Rattle.file_commands.specs.declared.or_records.Sort.TheVariants.{Undecided, Records, Others}

@@ -8,13 +8,13 @@ use Rattle.wire_msg.specs.declared.fault.MsgFault.{MsgFault}
 use Rattle.wire_msg.specs.declared.header.MsgHeader.{MsgHeader}
 use Rattle.wire_msg.specs.{FaultMsg, Message, SpellsMsg, fault_text, header_of}
 use Rattle.wire_text.specs.{IsFrameText, IsMessageJson}
-use Rattle.wire_frame.specs.declared.opcode.Opcode.{Opcode}
-use Rattle.wire_frame.specs.declared.opcode.Opcode.TheVariants.{Msg}
-use Rattle.wire_frame.specs.{IsOwnKind, opcode_number}
-use Rattle.wire_record.specs.declared.head.Direction.{Direction}
-use Rattle.wire_record.specs.declared.head.Direction.TheVariants.{ToServer, FromServer}
-use Rattle.wire_record.specs.declared.head.RecordHead.{RecordHead}
-use Rattle.wire_record.specs.{HasHead, head_of, message_of}
+use Rattle.wire_frames.specs.declared.opcode.Opcode.{Opcode}
+use Rattle.wire_frames.specs.declared.opcode.Opcode.TheVariants.{Msg}
+use Rattle.wire_frames.specs.{IsOwnKind, opcode_number}
+use Rattle.wire_frames.specs.declared.head.Direction.{Direction}
+use Rattle.wire_frames.specs.declared.head.Direction.TheVariants.{ToServer, FromServer}
+use Rattle.wire_frames.specs.declared.head.RecordHead.{RecordHead}
+use Rattle.wire_frames.specs.{HasHead, head_of, message_of}
 use Rattle.file_commands.specs.declared.json.Layout.{Layout}
 use Rattle.file_commands.specs.declared.json.Layout.TheVariants.{Lines, Array}
 use Rattle.file_commands.specs.declared.record_text.RecordForm.{RecordForm}

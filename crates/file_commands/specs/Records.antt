@@ -1,7 +1,7 @@
 -- What is written for records back to back, behind the signature of their file.
 use Rattle.std.specs.Prelude.{◌≡◌, ℕ, ◌+◌, List}
-use Rattle.wire_record.specs.declared.fault.RecordFault.{RecordFault}
-use Rattle.wire_record.specs.{IsAtFault, IsRecord, WantsMore}
+use Rattle.wire_frames.specs.declared.fault.RecordFault.{RecordFault}
+use Rattle.wire_frames.specs.Records.{IsAtFault, IsRecord, WantsMore}
 use Rattle.file_commands.specs.declared.record_text.RecordForm.{RecordForm}
 use Rattle.file_commands.specs.InputFault.{ended_inside_line, record_line}
 use Rattle.file_commands.specs.Output.{TextOf}

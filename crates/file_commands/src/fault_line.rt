@@ -8,7 +8,7 @@ ghost use Rattle.file_commands.specs.InputFault.{record_line};
 use bson_elem::BsonFault;
 use std::io;
 use std::io::Write;
-use wire_record::RecordFault;
+use wire_frames::RecordFault;
 
 /// Writes the line of the fault of a document.
 pub fn write_bson_fault<W: Write>(fault: BsonFault, out: &mut W) -> io::Result<()>

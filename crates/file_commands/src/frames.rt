@@ -11,7 +11,7 @@ use crate::walk::{Stop, Walk};
 use std::alloc::Global;
 use std::io;
 use std::io::Write;
-use wire_frame::{FrameFront, FrameReader};
+use wire_frames::{FrameFront, FrameReader};
 use wire_msg::{MAX_MESSAGE_LEN, MsgFault};
 use wire_text::write_frame;
 

@@ -9,8 +9,8 @@ use bson_elem::BsonFault;
 use command_run::write_fault;
 use std::io;
 use std::io::Write;
+use wire_frames::RecordFault;
 use wire_msg::MsgFault;
-use wire_record::RecordFault;
 use wire_text::write_msg_fault;
 
 /// A fault of an input. An `offset` counts from the input's first byte, or from the first of those

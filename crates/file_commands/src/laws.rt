@@ -9,7 +9,7 @@ ghost use Rattle.file_commands.specs.Msg.{MsgText};
 ghost use Rattle.file_commands.specs.OrRecords.{TextOrRecords};
 ghost use Rattle.file_commands.specs.declared.msg.MessageForm.TheVariants.{Text};
 ghost use Rattle.file_commands.specs.declared.record_text.RecordForm.TheVariants.{Text as in_lines};
-ghost use Rattle.wire_record.specs.{signature};
+ghost use Rattle.wire_frames.specs.{signature};
 
 /// Proves that bytes have at most one text as documents, which ends with a fault line or doesn't,
 /// whatever a command writes for a document and behind all of them, if a function of the document

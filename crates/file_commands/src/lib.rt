@@ -12,7 +12,7 @@
 //! last line of the text, and by `run_bson` in what it returns. `salvage_check` and `salvage_canon`
 //! go on behind a fault; the one tells each, at its gap, and the other none.
 //!
-//! Stands on command_run, bson_json_read, bson_stream, wire_record and wire_stream. bsonwire stands
+//! Stands on command_run, bson_json_read, bson_stream, wire_frames and wire_stream. bsonwire stands
 //! on it. Read first: `walk`, `pieces`, `documents`, and then `dump`.
 #![tactic(auto)]
 

@@ -4,14 +4,14 @@
 ghost use Rattle.std.specs.Prelude.{◌≡◌, ◌++◌, ◌<◌, IfOk, List, take, ℕ};
 ghost use Rattle.file_commands.specs.OrRecordsWalk.{IsSorted, Waits, or_records_tells};
 ghost use Rattle.file_commands.specs.Walk.{IsBetween, Walks};
-ghost use Rattle.wire_record.specs.{signature};
+ghost use Rattle.wire_frames.specs.{signature};
 
 use crate::input_fault::InputFault;
 use crate::walk::{Stop, Walk};
 use std::alloc::Global;
 use std::io;
 use std::io::Write;
-use wire_record::SIGNATURE;
+use wire_frames::SIGNATURE;
 
 /// What the first bytes of an input tell.
 #[derive(Clone, Copy)]

@@ -3,8 +3,8 @@
 ghost use Rattle.std.specs.Prelude.{◌≡◌, ◌+◌, ◌<◌, ◌≤◌, ◌^◌, OnOk, length};
 ghost use Rattle.std.specs.Io.KnownBytes.{Appends};
 ghost use Rattle.bson_json.specs.{WritesOne};
-ghost use Rattle.wire_frame.specs.{frame_bytes};
-ghost use Rattle.wire_record.specs.{record_bytes};
+ghost use Rattle.wire_frames.specs.{frame_bytes};
+ghost use Rattle.wire_frames.specs.{record_bytes};
 ghost use Rattle.file_commands.specs.RecordText.{IsFrameJson, IsMsgJson, IsRecordText};
 ghost use Rattle.file_commands.specs.RecordText.{direction_sign};
 ghost use Rattle.file_commands.specs.RecordText.{faulty_json, head_json, head_line, header_front};
@@ -15,9 +15,8 @@ use bson_json::Mode;
 use std::alloc::Global;
 use std::io;
 use std::io::Write;
-use wire_frame::{Opcode, RawFrame};
+use wire_frames::{Direction, HEAD_LEN, Opcode, RawFrame, RawRecord, RecordHead};
 use wire_msg::{MAX_MESSAGE_LEN, MsgFault, MsgHeader, RawMsg};
-use wire_record::{Direction, HEAD_LEN, RawRecord, RecordHead};
 use wire_text::{write_frame, write_message_json};
 
 /// The offset of the first record in a file of records, behind its signature.

@@ -13,8 +13,8 @@ use crate::walk::{Stop, Walk};
 use std::alloc::Global;
 use std::io;
 use std::io::Write;
+use wire_frames::{RecordFault, RecordFront, RecordReader};
 use wire_msg::MAX_MESSAGE_LEN;
-use wire_record::{RecordFault, RecordFront, RecordReader};
 
 /// Reads the records of a file, behind its signature.
 #[derive(Drop)]

@@ -5,7 +5,7 @@
 //! the item in front of bytes, and a `Reader` makes items of bytes that come in pieces. However
 //! these are cut, they give the same items (`read_pieces`).
 //!
-//! Stands on std alone. Read first: `specs/Rules.antt`, `specs/Items.antt`,
+//! Stands on std alone. Used by wire_frames. Read first: `specs/Rules.antt`, `specs/Items.antt`,
 //! and then `framing`.
 #![tactic(auto)]
 

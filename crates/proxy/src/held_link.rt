@@ -6,7 +6,7 @@ ghost use Rattle.wire_stream.specs.{bytes_moved};
 use std::alloc::{AllocError, Global};
 use std::io::ErrorKind;
 use std::mem::replace;
-use wire_frame::{FrameFront, RawFrame};
+use wire_frames::{FrameFront, RawFrame};
 use wire_msg::MAX_MESSAGE_LEN;
 use wire_relay::EndSending;
 use wire_stream::{Link, LinkFault, Moved};

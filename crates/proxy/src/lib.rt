@@ -9,7 +9,7 @@
 //! seed, from which it is drawn where each connection is cut. With a script a `HeldLink` holds each
 //! message until it is whole, and `fate` asks the script.
 //!
-//! Uses sockets, wire_relay, test_script, wire_record and wire_text. Used by shared_proxy and bsonwire.
+//! Uses sockets, wire_relay, test_script, wire_frames and wire_text. Used by shared_proxy and bsonwire.
 //! Read first: `options`, `pair`, `sink`, and then `proxy`.
 #![tactic(auto)]
 

@@ -5,7 +5,7 @@ use bson_json::{Mode, write_json, write_json_string};
 use std::alloc::Global;
 use std::io;
 use std::io::Write;
-use wire_frame::{Opcode, RawFrame};
+use wire_frames::{Opcode, RawFrame};
 use wire_msg::{MAX_MESSAGE_LEN, RawMsg};
 use wire_query::RawQuery;
 use wire_text::{write_frame, write_message_json};

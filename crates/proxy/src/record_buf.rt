@@ -2,12 +2,11 @@
 
 ghost use Rattle.std.specs.Prelude.{◌≡◌, ◌+◌, ◌++◌, ◌<◌, ◌≤◌, [], IfOk, IfSome, MatchBool, OnErr};
 ghost use Rattle.std.specs.Prelude.{IsSomeAnd, None, Some, false, length, true};
-ghost use Rattle.wire_frame.specs.{frame_bytes};
-ghost use Rattle.wire_record.specs.{IsConnection, record_of, signature};
+ghost use Rattle.wire_frames.specs.{frame_bytes};
+ghost use Rattle.wire_frames.specs.{IsConnection, record_of, signature};
 
 use std::alloc::{AllocError, Global};
-use wire_frame::RawFrame;
-use wire_record::{HEAD_LEN, RecordHead, SIGNATURE, write_record};
+use wire_frames::{HEAD_LEN, RawFrame, RecordHead, SIGNATURE, write_record};
 
 /// The greatest number of a connection that a record has.
 const LAST: u64 = i64::MAX as u64;

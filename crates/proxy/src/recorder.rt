@@ -8,17 +8,16 @@ use std::io;
 use std::io::Write;
 use std::rt::Files;
 use std::time::{Clock, SystemTime, UNIX_EPOCH};
-use wire_frame::RawFrame;
-use wire_record::RecordHead;
+use wire_frames::{RawFrame, RecordHead};
 
 /// How many bytes of records wait at the least before the file is written.
 const ROOM: usize = 65_536;
 
 /// Returns the direction as a record has it.
-fn recorded_direction(direction: Direction) -> wire_record::Direction {
+fn recorded_direction(direction: Direction) -> wire_frames::Direction {
     match direction {
-        Direction::There => wire_record::Direction::ToServer,
-        Direction::Back => wire_record::Direction::FromServer,
+        Direction::There => wire_frames::Direction::ToServer,
+        Direction::Back => wire_frames::Direction::FromServer,
     }
 }
 

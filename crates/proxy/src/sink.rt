@@ -10,7 +10,7 @@ use std::io;
 use std::io::Write;
 use std::rt::Files;
 use std::time::Clock;
-use wire_frame::RawFrame;
+use wire_frames::RawFrame;
 use wire_msg::MsgFault;
 
 /// How messages are shown, and the file of records, if they are recorded.

@@ -9,7 +9,7 @@ use std::io;
 use std::io::{ErrorKind, Write};
 use std::rt::Files;
 use std::time::Clock;
-use wire_frame::{FrameFront, FrameReader};
+use wire_frames::{FrameFront, FrameReader};
 use wire_msg::MAX_MESSAGE_LEN;
 use wire_relay::Tap;
 

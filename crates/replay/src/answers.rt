@@ -6,7 +6,7 @@ use crate::flags::{MORE_TO_COME, has_flag};
 use crate::pace::{is_past, later};
 use std::alloc::{AllocError, Global};
 use std::time::Instant;
-use wire_frame::RawFrame;
+use wire_frames::RawFrame;
 
 /// An answer.
 #[derive(Drop)]

@@ -5,7 +5,7 @@ use sockets::IoFailure;
 use std::alloc::{AllocError, Global};
 use std::fmt;
 use std::io::ErrorKind;
-use wire_frame::{FrameFront, FrameReader, RawFrame};
+use wire_frames::{FrameFront, FrameReader, RawFrame};
 use wire_msg::{MAX_MESSAGE_LEN, MsgFault};
 use wire_stream::{Inlet, Link, LinkFault, Moved, Pulled, TcpLink};
 

@@ -12,7 +12,7 @@ use std::alloc::{AllocError, Global};
 use std::io;
 use std::io::{ErrorKind, Write};
 use std::time::{Duration, Instant};
-use wire_frame::RawFrame;
+use wire_frames::RawFrame;
 use wire_stream::LinkFault;
 
 /// The most messages that a turn takes.

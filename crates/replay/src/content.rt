@@ -16,7 +16,7 @@ use bson_raw::RawDocument;
 use std::alloc::{AllocError, Global};
 use std::io;
 use std::io::Write;
-use wire_frame::RawFrame;
+use wire_frames::RawFrame;
 use wire_msg::{Documents, HEADER_LEN, MAX_MESSAGE_LEN, Payload, RawMsg};
 
 /// The number of bytes of a checksum.

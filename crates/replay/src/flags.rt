@@ -1,6 +1,6 @@
 //! The flags of an OP_MSG, as its bytes have them, and whether a request wants an answer.
 
-use wire_frame::{Opcode, RawFrame};
+use wire_frames::{Opcode, RawFrame};
 
 /// The offset of the flags of an OP_MSG.
 pub const FLAGS: usize = 16;

@@ -1,7 +1,7 @@
 //! Why a file isn't one of records.
 
 use std::fmt;
-use wire_record::RecordCause;
+use wire_frames::RecordCause;
 
 /// Why a file isn't one of records. An `offset` counts from the file's first byte.
 #[derive(Clone, Copy, Debug, PartialEq, Eq)]

@@ -16,7 +16,7 @@ use std::io;
 use std::io::Write;
 use std::net::{Net, SocketAddr};
 use std::time::{Clock, Duration, Instant};
-use wire_record::{Direction, RawRecord};
+use wire_frames::{Direction, RawRecord};
 
 /// The connections of the record, and the server to which they go.
 #[derive(Drop)]

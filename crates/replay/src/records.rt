@@ -7,8 +7,8 @@ use crate::piece::Piece;
 use std::alloc::Global;
 use std::io;
 use std::io::Read;
+use wire_frames::{RawRecord, RecordFault, RecordFront, RecordReader, SIGNATURE};
 use wire_msg::MAX_MESSAGE_LEN;
-use wire_record::{RawRecord, RecordFault, RecordFront, RecordReader, SIGNATURE};
 
 /// The records of a file, of which one is held.
 #[derive(Drop)]

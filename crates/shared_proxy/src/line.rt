@@ -7,7 +7,7 @@ use crate::leave::Leave;
 use proxy::{Cut, Direction, HeldLink, Socket};
 use sockets::IoFailure;
 use std::alloc::{AllocError, Global};
-use wire_frame::RawFrame;
+use wire_frames::RawFrame;
 use wire_stream::{Inlet, Link, Moved, Pulled};
 
 /// What a step over a connection came to.

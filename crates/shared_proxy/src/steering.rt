@@ -9,7 +9,7 @@ use std::io::Write;
 use std::rt::Files;
 use std::time::Clock;
 use test_script::{Flow, Script};
-use wire_frame::{FrameFront, RawFrame};
+use wire_frames::{FrameFront, RawFrame};
 use wire_msg::MAX_MESSAGE_LEN;
 
 /// What becomes of a client whose request was steered.

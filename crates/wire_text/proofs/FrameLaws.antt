@@ -4,10 +4,10 @@ use Rattle.bson_elem.specs.{IsBytes}
 use Rattle.wire_msg.specs.declared.fault.MsgFault.{MsgFault}
 use Rattle.wire_msg.specs.{header_of}
 use Rattle.wire_msg.proofs.Lemmas.{no_msg_fault, one_message, one_msg_fault}
-use Rattle.wire_frame.specs.declared.checksum.Checksum.{Checksum}
-use Rattle.wire_frame.specs.declared.opcode.Opcode.{Opcode}
-use Rattle.wire_frame.specs.declared.opcode.Opcode.TheVariants.{Compressed, Msg, Other, Query, Reply}
-use Rattle.wire_frame.proofs.Lemmas.{one_checksum, one_kind}
+use Rattle.wire_frames.specs.declared.checksum.Checksum.{Checksum}
+use Rattle.wire_frames.specs.declared.opcode.Opcode.{Opcode}
+use Rattle.wire_frames.specs.declared.opcode.Opcode.TheVariants.{Compressed, Msg, Other, Query, Reply}
+use Rattle.wire_frames.proofs.Lemmas.{one_checksum, one_kind}
 use Rattle.wire_text.specs.FrameText.{IsFrameText, IsKindText, IsMsgText, checksum_line, header_line}
 use Rattle.wire_text.specs.MessageText.{message_text, msg_fault_line}
 

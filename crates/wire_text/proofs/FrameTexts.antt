@@ -3,10 +3,10 @@ use Rattle.std.proofs.Common.{◌≡◌, ◌≢◌, ℕ, List, Option, Result, O
 use Rattle.std.specs.Io.KnownBytes.{Appends}
 use Rattle.bson_json.proofs.Lemmas.{one_then_word}
 use Rattle.wire_msg.specs.{header_of}
-use Rattle.wire_frame.specs.declared.checksum.Checksum.{Checksum}
-use Rattle.wire_frame.specs.declared.opcode.Opcode.{Opcode}
-use Rattle.wire_frame.specs.declared.opcode.Opcode.TheVariants.{Compressed, Msg, Other, Query, Reply}
-use Rattle.wire_frame.specs.{IsChecksumOf, IsOwnKind, opcode_number}
+use Rattle.wire_frames.specs.declared.checksum.Checksum.{Checksum}
+use Rattle.wire_frames.specs.declared.opcode.Opcode.{Opcode}
+use Rattle.wire_frames.specs.declared.opcode.Opcode.TheVariants.{Compressed, Msg, Other, Query, Reply}
+use Rattle.wire_frames.specs.{IsChecksumOf, IsOwnKind, opcode_number}
 use Rattle.wire_text.specs.FrameText.{IsFrameText, IsKindText, checksum_line, header_line}
 
 -- a text of this sort was written between two states of a writer

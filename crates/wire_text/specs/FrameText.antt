@@ -4,12 +4,12 @@ use Rattle.std.specs.Fmt.{decimal, signed_decimal}
 use Rattle.wire_msg.specs.declared.fault.MsgFault.{MsgFault}
 use Rattle.wire_msg.specs.declared.header.MsgHeader.{MsgHeader}
 use Rattle.wire_msg.specs.{FaultMsg, Message, SpellsMsg, header_of}
-use Rattle.wire_frame.specs.declared.checksum.Checksum.{Checksum}
-use Rattle.wire_frame.specs.declared.checksum.Checksum.TheVariants.{Absent, Right, Wrong}
-use Rattle.wire_frame.specs.declared.opcode.Opcode.{Opcode}
-use Rattle.wire_frame.specs.declared.opcode.Opcode.TheVariants.{Reply, Query, Compressed, Msg}
-use Rattle.wire_frame.specs.declared.opcode.Opcode.TheVariants.{Other}
-use Rattle.wire_frame.specs.{IsChecksumOf, IsOwnKind, opcode_number}
+use Rattle.wire_frames.specs.declared.checksum.Checksum.{Checksum}
+use Rattle.wire_frames.specs.declared.checksum.Checksum.TheVariants.{Absent, Right, Wrong}
+use Rattle.wire_frames.specs.declared.opcode.Opcode.{Opcode}
+use Rattle.wire_frames.specs.declared.opcode.Opcode.TheVariants.{Reply, Query, Compressed, Msg}
+use Rattle.wire_frames.specs.declared.opcode.Opcode.TheVariants.{Other}
+use Rattle.wire_frames.specs.{IsChecksumOf, IsOwnKind, opcode_number}
 use Rattle.wire_text.specs.MessageText.{message_text, msg_fault_line}
 
 -- the word for each kind of messages

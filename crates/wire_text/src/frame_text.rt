@@ -3,7 +3,7 @@
 ghost use Rattle.std.specs.Prelude.{◌≡◌, ◌+◌, ◌<◌, ◌^◌, OnOk, length};
 ghost use Rattle.std.specs.Io.KnownBytes.{Appends};
 ghost use Rattle.bson_json.specs.{WritesOne};
-ghost use Rattle.wire_frame.specs.{frame_bytes};
+ghost use Rattle.wire_frames.specs.{frame_bytes};
 ghost use Rattle.wire_text.specs.FrameText.{IsFrameText, IsMsgText, checksum_line, header_line};
 ghost use Rattle.wire_text.specs.FrameText.{kind_word};
 
@@ -11,7 +11,7 @@ use crate::messages::{write_message, write_msg_fault};
 use std::alloc::Global;
 use std::io;
 use std::io::Write;
-use wire_frame::{Checksum, Opcode, RawFrame};
+use wire_frames::{Checksum, Opcode, RawFrame};
 use wire_msg::{MAX_MESSAGE_LEN, MsgFault, MsgHeader, RawMsg};
 
 /// Returns the word for a kind of messages.

@@ -1,7 +1,7 @@
 use Rattle.std.proofs.Common.{◌≡◌, ◌+◌, ◌-◌, ◌++◌, ◌∙◌, ℕ, List, ap, arith, drop, length, refl, subst, sym, take}
 use Rattle.std.proofs.lemmas.Bool.Decides.{nat_tests}
 use Rattle.wire_msg.specs.declared.fault.MsgFault.{MsgFault}
-use Rattle.wire_frame.specs.{FrameReading, IsFrame, IsWholeFrame, frame_bytes}
+use Rattle.wire_frames.specs.{FrameReading, IsFrame, IsWholeFrame, frame_bytes}
 use Rattle.file_commands.specs.Any.{IsOpenFrame, frames_of}
 use Rattle.wire_text.specs.{IsFrameText, msg_fault_line}
 use Rattle.file_commands.proofs.FrameReadings.{frame_alone, frames_kind, takes_some}

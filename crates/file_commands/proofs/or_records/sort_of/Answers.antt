@@ -1,7 +1,7 @@
 use Rattle.std.proofs.Common.{◌-◌, ◌∙◌, None, Some, [], drop, sym, take, true≢false}
 use Rattle.std.proofs.lemmas.Bool.Decides.{Decides-eqb}
 use Rattle.std.proofs.lemmas.Slice.Eq.{starts_is, strip_prefix_is}
-use Rattle.wire_record.specs.{signature}
+use Rattle.wire_frames.specs.{signature}
 use Rattle.file_commands.proofs.OrRecordsLemmas.{sorted_others, sorted_records, sorted_undecided, wanted_is}
 use Rattle.file_commands.proofs.or_records.sort_of.Goals as goal
 

@@ -1,6 +1,6 @@
 use Rattle.std.proofs.Common.{ap}
 use Rattle.bson_json.proofs.Lemmas.{exact_one}
-use Rattle.wire_frame.specs.{frame_bytes}
+use Rattle.wire_frames.specs.{frame_bytes}
 use Rattle.file_commands.specs.RecordText.{IsFrameJson, IsMsgJson, header_json}
 use Rattle.file_commands.proofs.RecordTexts.{other_json, wrote_as}
 use Rattle.file_commands.proofs.record_text.write_frame_json.Goals as goal

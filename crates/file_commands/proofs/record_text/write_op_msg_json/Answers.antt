@@ -1,7 +1,7 @@
 use Rattle.std.proofs.Common.{◌+◌, inl, inr, List, ℕ, ap, subst, sym}
 use Rattle.bson_json.proofs.Lemmas.{exact_one}
 use Rattle.wire_msg.specs.{FaultMsg, SpellsMsg}
-use Rattle.wire_frame.specs.{frame_bytes}
+use Rattle.wire_frames.specs.{frame_bytes}
 use Rattle.wire_text.specs.{IsMessageJson}
 use Rattle.file_commands.specs.RecordText.{IsMsgJson, faulty_json}
 use Rattle.file_commands.proofs.RecordTexts.{wrote_as}

@@ -1,5 +1,5 @@
 use Rattle.std.proofs.Common.{◌∙◌, ap, arith, length, length-drop}
-use Rattle.wire_record.specs.{record_bytes}
+use Rattle.wire_frames.specs.{record_bytes}
 use Rattle.file_commands.proofs.RecordTexts.{object_written}
 use Rattle.file_commands.proofs.record_text.write_record_json.Goals as goal
 

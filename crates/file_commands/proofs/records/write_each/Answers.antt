@@ -1,6 +1,6 @@
 use Rattle.std.proofs.Common.{◌≡◌, ◌+◌, ◌-◌, ◌++◌, ◌∙◌, ℕ, List, ap, arith, drop, length, refl, subst, sym, take}
 use Rattle.std.proofs.lemmas.Bool.Decides.{nat_tests}
-use Rattle.wire_record.specs.{IsRecord, IsWholeRecord, RecordReading, record_bytes}
+use Rattle.wire_frames.specs.{IsRecord, IsWholeRecord, RecordReading, record_bytes}
 use Rattle.file_commands.specs.RecordText.{IsRecordText}
 use Rattle.file_commands.specs.RecordWalk.{file_reading}
 use Rattle.file_commands.specs.Records.{IsOpenRecord, records_of}

@@ -1,5 +1,5 @@
 use Rattle.std.proofs.Common.{ap}
-use Rattle.wire_frame.specs.{frame_bytes}
+use Rattle.wire_frames.specs.{frame_bytes}
 use Rattle.wire_text.specs.FrameText.{IsKindText, header_line}
 use Rattle.wire_text.proofs.FrameTexts.{Wrote, frame_written, other_kind}
 use Rattle.wire_text.proofs.frame_text.write_frame.Goals as goal

@@ -1,8 +1,8 @@
 use Rattle.std.proofs.Common.{◌≡◌, ◌+◌, ◌++◌, inl, inr, List, ℕ, ap, refl, subst, sym}
 use Rattle.bson_json.proofs.Lemmas.{exact_one, one_then_word}
 use Rattle.wire_msg.specs.{FaultMsg, SpellsMsg, header_of}
-use Rattle.wire_frame.specs.declared.opcode.Opcode.TheVariants.{Msg}
-use Rattle.wire_frame.specs.{frame_bytes}
+use Rattle.wire_frames.specs.declared.opcode.Opcode.TheVariants.{Msg}
+use Rattle.wire_frames.specs.{frame_bytes}
 use Rattle.wire_text.specs.FrameText.{IsMsgText, header_line}
 use Rattle.wire_text.specs.MessageText.{message_text, msg_fault_line}
 use Rattle.wire_text.proofs.frame_text.write_op_msg.Goals as goal

@@ -1,5 +1,5 @@
 use Rattle.std.proofs.Common.{ap, refl}
-use Rattle.wire_frame.specs.{FrameReading}
+use Rattle.wire_frames.specs.{FrameReading}
 use Rattle.file_commands.specs.FrameWalk.{any_walk}
 use Rattle.file_commands.proofs.FrameReadings.{frames_kind}
 use Rattle.file_commands.proofs.ItemReadings.{items_begun}

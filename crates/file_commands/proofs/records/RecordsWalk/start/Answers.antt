@@ -1,5 +1,5 @@
 use Rattle.std.proofs.Common.{ap, refl}
-use Rattle.wire_record.specs.{RecordReading}
+use Rattle.wire_frames.specs.{RecordReading}
 use Rattle.file_commands.specs.RecordWalk.{record_walk}
 use Rattle.file_commands.proofs.RecordReadings.{records_kind}
 use Rattle.file_commands.proofs.ItemReadings.{items_begun}

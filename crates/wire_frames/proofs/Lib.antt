@@ -1,0 +1,9 @@
+pub mod CrcLaws
+pub mod FrameItems
+pub mod FrontLaws
+pub mod MessageLaws
+pub mod Heads
+pub mod RecordItems
+pub mod RecordLaws
+pub mod WrittenLaws
+pub mod Lemmas
