@@ -8,6 +8,7 @@ pub mod Values
 pub mod Spelled
 pub mod Reading
 pub mod Checking
+pub mod Copies
 pub mod Writing
 pub mod Owned
 pub mod Appending

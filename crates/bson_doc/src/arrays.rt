@@ -3,6 +3,7 @@
 ghost use Rattle.std.specs.Prelude.{◌≡◌, map, IfOk};
 
 use crate::bson_values::Bson;
+use crate::copying::push_copy;
 use std::alloc::AllocError;
 use std::marker::Model;
 
@@ -71,7 +72,7 @@ impl Array {
     {
         let mut values = Vec::with_capacity(*self.values.allocator(), self.values.len())?;
         for value in self.values.iter() {
-            values.push(value.try_clone()?)?;
+            push_copy(value.try_clone(), &mut values)?;
         }
         Ok(Array { values })
     }

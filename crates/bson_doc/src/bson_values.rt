@@ -8,9 +8,10 @@ use crate::lent::{Lent, lend_binary, same_bytes};
 use bson_elem::Kind;
 use bson_raw::{RawBson, double_from_bytes, double_to_bytes};
 use std::alloc::AllocError;
+use std::fmt;
 
 /// A value: one variant for each kind.
-#[derive(Debug, Drop, PartialEq)]
+#[derive(Drop, PartialEq)]
 #[cycle(bson)]
 pub enum Bson {
     /// The 8 bytes of the number, as they stand in a document.
@@ -170,6 +171,22 @@ impl Bson {
             Bson::Decimal128(bytes) => Lent::Leaf(RawBson::Decimal128(same_bytes(bytes))),
             Bson::MinKey => Lent::Leaf(RawBson::MinKey),
             Bson::MaxKey => Lent::Leaf(RawBson::MaxKey),
+        }
+    }
+}
+
+impl fmt::Debug for Bson {
+    #[cycle(show)]
+    fn fmt<W: fmt::Write>(&self, f: &mut fmt::Formatter<W>) -> fmt::Result {
+        match self.lend() {
+            Lent::Document(document) => f.debug_tuple("Document").field(document).finish(),
+            Lent::Array(array) => f.debug_tuple("Array").field(array).finish(),
+            Lent::CodeWithScope { code, scope } => f
+                .debug_struct("CodeWithScope")
+                .field("code", &code)
+                .field("scope", scope)
+                .finish(),
+            Lent::Leaf(leaf) => leaf.fmt(f),
         }
     }
 }

@@ -6,6 +6,7 @@ ghost use Rattle.std.specs.List.{IsDistinct};
 ghost use Rattle.std.specs.Str.{bytes_eq};
 
 use crate::bson_values::Bson;
+use crate::copying::{push_copy, with_names};
 use crate::iter::DocumentIter;
 use crate::name_list::NameList;
 use std::alloc::{AllocError, AllocFailed, Global};
@@ -190,12 +191,11 @@ impl Document {
     pub fn try_clone(&self) -> Result<Document, AllocError>
         ensures { IfOk result (λ copy. copy ≡ self.now) }
     {
-        let names = self.names.try_clone()?;
         let mut values = Vec::with_capacity(self.allocator(), self.values.len())?;
         for value in self.values.iter() {
-            values.push(value.try_clone()?)?;
+            push_copy(value.try_clone(), &mut values)?;
         }
-        Ok(Document { names, values })
+        with_names(&self.names, values)
     }
 }
 

@@ -1,13 +1,14 @@
 //! Reading documents out of their bytes.
 
 ghost use Rattle.std.specs.Prelude.{◌≡◌, ◌+◌, ◌<◌, ◌^◌, [], None, false, true, length, ℕ, List};
+ghost use Rattle.std.specs.Prelude.{map, string_bytes};
 ghost use Rattle.std.specs.Prelude.{IfOk, IfErr, MatchResult, OnOk};
 ghost use Rattle.bson_elem.specs.{Spells, Tree};
 ghost use Rattle.bson_raw.specs.{Shows, TreeValue, array_bytes, document_bytes, held_len};
 ghost use Rattle.bson_doc.specs.declared.refusal.DocRefusal.TheVariants.{OutOfMemory};
 ghost use Rattle.bson_doc.specs.Array.{array_tree};
 ghost use Rattle.bson_doc.specs.Bson.{value_of};
-ghost use Rattle.bson_doc.specs.Document.{tree_of};
+ghost use Rattle.bson_doc.specs.Document.{paired, tree_of};
 ghost use Rattle.bson_doc.specs.Plain.{plain, plain_from};
 ghost use Rattle.bson_doc.specs.Repeats.{repeat_depth, repeat_in, repeat_in_value, IsRepeat};
 ghost use Rattle.bson_doc.specs.Values.{plain_value};
@@ -81,14 +82,34 @@ fn read_array(alloc: Global, array: RawArray<'_>, depth: u32) -> Result<Array, D
         → IfErr result (λ e. IsRepeat (repeat_in true depth [] t) e) }
 {
     let mut values = Vec::new(alloc);
-    for value in array.iter() {
-        values.push(read_value(alloc, value, depth)?)?;
-    }
+    read_values(alloc, array, depth, &mut values)?;
     Ok(Array::from_vec(values))
 }
 
-/// Returns the owned document of one of depth `depth`. A name is looked up before it is copied, so
-/// that no memory is asked for one that is there.
+/// Appends the owned values of an array of depth `depth` to no values.
+#[cycle(read)]
+fn read_values(
+    alloc: Global,
+    array: RawArray<'_>,
+    depth: u32,
+    values: &mut Vec<Bson>,
+) -> Result<(), DocRefusal>
+    requires small { depth + length (array_bytes array) < 2 ^ 32 }
+    requires none { values.old.items ≡ [] }
+    ensures read { (t : Tree) → Spells t (array_bytes array.entry)
+        → OnOk result (array_tree 0 (map value_of values.new.items) ≡ plain_from true 0 t) }
+    ensures unique { (t : Tree) → Spells t (array_bytes array.entry)
+        → OnOk result (repeat_in true depth [] t ≡ None) }
+    ensures refused { (t : Tree) → Spells t (array_bytes array.entry)
+        → IfErr result (λ e. IsRepeat (repeat_in true depth [] t) e) }
+{
+    for value in array.iter() {
+        values.push(read_value(alloc, value, depth)?)?;
+    }
+    Ok(())
+}
+
+/// Returns the owned document of one of depth `depth`.
 #[cycle(read)]
 fn read_document(
     alloc: Global,
@@ -105,6 +126,32 @@ fn read_document(
 {
     let mut names = NameList::new(alloc);
     let mut values = Vec::new(alloc);
+    read_pairs(alloc, document, depth, &mut names, &mut values)?;
+    Ok(Document::of_parts(names, values))
+}
+
+/// Appends the names and the owned values of a document of depth `depth` to no names and no values.
+/// A name is looked up before it is copied, so that no memory is asked for one that is there.
+#[cycle(read)]
+fn read_pairs(
+    alloc: Global,
+    document: RawDocument<'_>,
+    depth: u32,
+    names: &mut NameList,
+    values: &mut Vec<Bson>,
+) -> Result<(), DocRefusal>
+    requires small { depth + length (document_bytes document) < 2 ^ 32 }
+    requires unnamed { names.old ≡ [] }
+    requires none { values.old.items ≡ [] }
+    ensures as_many { OnOk result (length names.new ≡ length values.new.items) }
+    ensures read { (t : Tree) → Spells t (document_bytes document.entry)
+        → OnOk result
+        (tree_of (paired (map string_bytes names.new) (map value_of values.new.items)) ≡ plain t) }
+    ensures unique { (t : Tree) → Spells t (document_bytes document.entry)
+        → OnOk result (repeat_in false depth [] t ≡ None) }
+    ensures refused { (t : Tree) → Spells t (document_bytes document.entry)
+        → IfErr result (λ e. IsRepeat (repeat_in false depth [] t) e) }
+{
     for (name, value) in document.iter() {
         if names.contains(name) {
             return Err(DocRefusal::RepeatedName { depth });
@@ -112,7 +159,7 @@ fn read_document(
         names.append(String::from_str(alloc, name)?)?;
         values.push(read_value(alloc, value, depth)?)?;
     }
-    Ok(Document::of_parts(names, values))
+    Ok(())
 }
 
 impl Document {

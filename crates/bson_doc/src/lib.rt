@@ -26,6 +26,7 @@ mod buf;
 mod bytes;
 mod canon;
 mod canonical_room;
+mod copying;
 mod documents;
 mod element;
 mod from_raw;
