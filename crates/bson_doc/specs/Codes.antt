@@ -28,10 +28,10 @@ coded_value =
     (coded⊎ (coded× coded_kind coded_leaf) (coded× coded_kind (coded× coded_beside coded_tree)))
     value_parts value_of_parts value_again
 
--- the values of an array
+-- a code for the values of an array: two arrays are equal where their codes are
 abbrev pub coded_values : Coded (List TreeValue)
 coded_values = coded_list coded_value
 
--- the pairs of a document
+-- a code for the pairs of a document: two documents are equal where their codes are
 abbrev pub coded_pairs : Coded (List (List ℕ × TreeValue))
 coded_pairs = coded_list (coded× coded_text coded_value)

@@ -15,7 +15,7 @@ abbrev pub value_bytes : TreeValue → List ℕ
 value_bytes (leaf_value k v) = leaf_bytes (form_of k) v
 value_bytes (document_value k b inner) = inner_bytes b (elements inner)
 
--- the number of these bytes
+-- the number of bytes of a value, without those of its name
 abbrev pub value_len : TreeValue → ℕ
 value_len v = length (value_bytes v)
 

@@ -37,7 +37,7 @@ StandsBehind h p =
     (n : ℕ) × (n ≤ length h.bytes)
     × ((p.line, p.column) ≡ place_behind h.place.0 h.place.1 (take n h.bytes))
 
--- so many bytes were let go of
+-- The first n held bytes were dropped, and the place is that of the byte after them.
 pub record MovesBy (n : ℕ) (old new : Held) : Type 0 where
   pub inside : n ≤ length old.bytes
   pub place : new.place ≡ place_behind old.place.0 old.place.1 (take n old.bytes)
@@ -54,6 +54,6 @@ EndsInside frame bytes =
     (here : Frame) × (text : List ℕ) × (next_in frame bytes ≡ text_here here text)
     × ((b : ℕ) → text_len (text ++ b ∷ []) ≡ length text + 1)
 
--- what follows decides what is next
+-- The bytes don't settle what the next text is: they end between two texts, or inside one.
 abbrev pub IsOpen : Frame → List ℕ → Type 0
 IsOpen frame bytes = EndsBetween frame bytes ⊎ EndsInside frame bytes

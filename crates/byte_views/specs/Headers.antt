@@ -26,7 +26,7 @@ front_numbers bytes = record {
   flag_bits = number_or_0 bytes 16;
 }
 
--- the header among them
+-- the four numbers of a message's header, out of the numbers at its front
 abbrev pub header_shown : FrontNumbers → MsgHeader
 header_shown n =
     record

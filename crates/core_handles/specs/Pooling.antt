@@ -28,7 +28,7 @@ pub data IsPoolMade (max : ℕ) (old new : Option Core) : ℕ → Type 0 where
 abbrev pub lent : Bool → ℕ → CheckedOut
 lent is_new id = record { refusal = 0; is_new = is_new; id = id }
 
--- none is lent, by this number
+-- the result of a check out that lends no connection, for the reason of this number
 abbrev pub none_lent : ℕ → CheckedOut
 none_lent n = record { refusal = n; is_new = false; id = 0 }
 
@@ -49,7 +49,7 @@ IsCheckedOut p after w = (w ≡ out_told (checked_out p).0) × (after ≡ (check
 abbrev pub taken_back : Bool → CheckedIn
 taken_back kept = record { refusal = 0; kept = kept }
 
--- none is taken back, by this number
+-- the result of a check in that takes no connection back, for the reason of this number
 abbrev pub none_back : ℕ → CheckedIn
 none_back n = record { refusal = n; kept = false }
 

@@ -10,7 +10,7 @@ use Rattle.core_handles.specs.declared.client_replies.ReplyCopied.{ReplyCopied}
 
 -- ---- output
 
--- the answer where there is no core
+-- the result of copying output from a handle that has no core for it: number 255, no byte copied
 abbrev pub no_output : OutputCopied
 no_output = record { refusal = 255; copied = 0; waiting = 0 }
 

@@ -57,7 +57,7 @@ AreGiven bytes (Err OutOfMemory) = Unit {0}
 
 -- ---- answers
 
--- what is told by this number alone
+-- the result of answering a request, where its number says all: 0 that it was answered, or why not
 abbrev pub answer_told : ℕ → AnswerGiven
 answer_told n = record { refusal = n; fault = first_fault None; document_fault = first_fault None }
 

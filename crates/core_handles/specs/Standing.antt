@@ -36,7 +36,8 @@ state_shown Open = cause_shown 0 0
 state_shown (Closed (causes.Message f)) = fault_shown f
 state_shown (Closed cause) = cause_shown 0 (server_cause_number cause)
 
--- how the server stands
+-- the state of a server, as a caller gets it: open or the cause that closed it, how many requests
+-- wait, and whether no more may wait
 abbrev pub server_shown : ServerView → ServerShown
 server_shown s =
     record (state_shown s.state) {
@@ -44,7 +45,7 @@ server_shown s =
       waiting = length s.waiting;
     }
 
--- the answer where there is no server
+-- the state of a handle that has no server: number 255
 abbrev pub no_server : ServerShown
 no_server = cause_shown 255 0
 
@@ -65,7 +66,7 @@ pub record IsServerFed (s : ServerView) (piece : List ℕ) (after : ServerView) 
       → (w.refusal ≡ 254) × (w.taken ≡ 0) × (after ≡ s) × CompletesHeader s.limit s.held piece
   pub state : w.state ≡ server_shown after
 
--- the answer where there is no server
+-- the result of feeding a handle that has no server: number 255, and no byte taken
 abbrev pub not_fed : ServerFed
 not_fed = record { refusal = 255; taken = 0; state = no_server }
 

@@ -39,11 +39,12 @@ state_shown (Closed (causes.Message f)) = fault_shown f
 state_shown (Closed (causes.UnknownReply id)) = cause_shown 0 2 id
 state_shown (Closed cause) = cause_shown 0 (cause_number cause) (pos 0)
 
--- how the client stands
+-- the state of a client, as a caller gets it: open or the cause that closed it, and whether a reply
+-- is ready
 abbrev pub client_shown : ClientSeen → ClientShown
 client_shown k = record (state_shown k.state) { ready = is_some k.reply }
 
--- the answer where there is no core
+-- the state of a handle that has no client: number 255
 abbrev pub no_state : ClientShown
 no_state = cause_shown 255 0 (pos 0)
 
@@ -53,7 +54,7 @@ no_state = cause_shown 255 0 (pos 0)
 abbrev pub count_told : ℕ → CountTold
 count_told n = record { refusal = 0; count = n }
 
--- the answer where there is no core
+-- the count of calls of a handle that has no client: number 255
 abbrev pub no_count : CountTold
 no_count = record { refusal = 255; count = 0 }
 
@@ -70,7 +71,7 @@ pub record IsFed (k : ClientSeen) (piece : List ℕ) (after : ClientSeen) (w : P
       × CompletesHeader k.requests.limit k.held piece
   pub state : w.state ≡ client_shown after
 
--- the answer where there is no core
+-- the result of feeding a handle that has no client: number 255, and no byte taken
 abbrev pub no_feed : PieceFed
 no_feed = record { refusal = 255; taken = 0; state = no_state }
 

@@ -213,7 +213,8 @@ abbrev pub joined_none : Logical → Bool
 joined_none logicals.And = true
 joined_none logicals.Or = false
 
--- all clauses must be compared, also those of $or
+-- How clauses are joined: where documents are to match, as the operator says; where values are to
+-- be compared, by `And`, since each clause of $or has to compare them.
 abbrev pub joining : Purpose → Logical → Logical
 joining purposes.Match l = l
 joining purposes.Compare l = logicals.And

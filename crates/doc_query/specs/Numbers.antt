@@ -8,7 +8,7 @@ use Rattle.doc_query.specs.declared.numbers.Number.{Number}
 abbrev pub scaled : ℤ → ℕ → ℤ
 scaled digits power = digits *ℤ pos (2 ^ power)
 
--- a number of the code
+-- the whole number that the code's `Number` stands for: its digits times its power of two
 abbrev pub number_value : Number → ℤ
 number_value n = scaled n.digits n.power
 

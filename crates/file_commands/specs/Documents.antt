@@ -16,11 +16,11 @@ use Rattle.file_commands.specs.Items.{AllItems, FirstItems, ItemKind, ItemsText}
 abbrev pub TextRule : Type 1
 TextRule = ℕ → Tree → Option (List ℕ) → Type 0
 
--- what a function of the document and of the offset at which it begins tells
+-- the rule that a document's text is what this function gives for its offset and the document
 abbrev pub told_at : (ℕ → Tree → Option (List ℕ)) → TextRule
 told_at text_of start t shown = text_of start t ≡ shown
 
--- what a function of the document alone tells
+-- the rule that a document's text is what this function gives for the document, at any offset
 abbrev pub told_by : (Tree → Option (List ℕ)) → TextRule
 told_by text_of start t shown = text_of t ≡ shown
 

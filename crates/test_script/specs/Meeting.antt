@@ -21,7 +21,7 @@ first_met_as name asked (r ∷ rs) =
 abbrev pub first_met : Content → List RuleView → Option ℕ
 first_met c rs = first_met_as (first_name c.body) (asked_value c) rs
 
--- what that rule does
+-- the action of the first rule that the request meets, or none if it meets no rule
 abbrev pub met : Content → List RuleView → Option Action
 met c [] = None
 met c (r ∷ rs) = if meets c r then Some r.action else met c rs
