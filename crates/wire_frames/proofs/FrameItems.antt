@@ -1,5 +1,5 @@
 -- Frames are the items of their rule.
-use Rattle.std.proofs.Common.{◌≡◌, ◌⊎◌, inl, inr, ℕ, ◌+◌, ◌<◌, ◌≤◌, List, [], ◌∷◌, Ok, length, take, refl, sym, ap, subst, ◌∙◌, arith}
+use Rattle.std.proofs.Common.{◌≡◌, ◌⊎◌, inl, inr, ℕ, ◌+◌, ◌<◌, List, [], ◌∷◌, length, take, refl, sym, ap, subst, ◌∙◌, arith}
 use Rattle.framing.specs.Items as items
 use Rattle.framing.specs.{AreItems, HasLead, IsEnd, IsItem, IsRefused, IsWholeItem, ItemSplit, bounded}
 use Rattle.framing.proofs.Lemmas.{is_within, outside, outside_is, within_is}

@@ -5,14 +5,13 @@ use Rattle.std.proofs.lemmas.Bool.{cases_lt}
 use Rattle.std.proofs.lemmas.Bool.Decides.{nat_tests}
 use Rattle.std.proofs.lemmas.List.{drop-take, take-take}
 use Rattle.framing.specs.Items as items
-use Rattle.framing.specs.{AreItems, HasLead, IsEnd, IsItem, IsRefused, IsWholeItem, ItemSplit, LacksLead, bounded}
-use Rattle.framing.proofs.Lemmas.{Within, is_within, outside, outside_is, within_is}
+use Rattle.framing.specs.{AreItems, HasLead, IsEnd, IsItem, IsRefused, IsWholeItem, ItemSplit, bounded}
+use Rattle.framing.proofs.Lemmas.{is_within, outside, outside_is, within_is}
 use Rattle.wire_msg.specs.{number_at}
 use Rattle.wire_frames.specs.declared.fault.RecordFault.{RecordFault}
 use Rattle.wire_frames.specs.declared.fault.RecordCause.TheVariants as causes
 use Rattle.wire_frames.specs.Causes.{record_fault}
 use Rattle.wire_frames.specs.Frames as frames
-use Rattle.wire_frames.specs.Frames.{LacksFrame}
 use Rattle.wire_frames.specs.Heads as heads
 use Rattle.wire_frames.specs.Heads.{HeadFault, IsGoodHead, connection_at, direction_at}
 use Rattle.wire_frames.specs.RecordRule.{checked_numbers, record_rule}
