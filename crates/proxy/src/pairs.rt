@@ -10,14 +10,14 @@ use crate::sink::Sink;
 use crate::socket::Socket;
 use crate::watch::Watches;
 use slab::Slab;
-use sockets::IoFailure;
+use sockets::{Delays, IoFailure};
 use std::alloc::{AllocError, Global};
 use std::collections::VecDeque;
 use std::io;
 use std::io::Write;
 use std::rt::Files;
 use std::time::{Clock, Duration};
-use test_script::{Delays, Script};
+use test_script::Script;
 
 /// The most pairs at once.
 pub const ROOM: usize = 1024;

@@ -9,13 +9,13 @@ use crate::server::{Server, Use};
 use crate::servers::{Place, Servers};
 use crate::steering::steer_reply;
 use proxy::{Sink, Watching};
+use sockets::Delays;
 use std::alloc::{AllocError, Global};
 use std::io;
 use std::io::Write;
 use std::net::Net;
 use std::rt::Files;
 use std::time::Clock;
-use test_script::Delays;
 use wire_share::{Need, Routes, SessionId};
 
 /// The clients, the connections to the server, which of both are to take a turn, and of which clients

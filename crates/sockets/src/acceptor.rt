@@ -168,6 +168,22 @@ impl Acceptor {
         }
     }
 
+    /// Returns the next connection, as `accept` does, registered under this token. If it can't be
+    /// registered, it is taken back, and accepted once more after a pause.
+    pub fn accept_under(&mut self, has_room: bool, token: usize) -> Option<TcpStream>
+        ensures room { has_room ≡ false → result ≡ None }
+        ensures given { IfSome result (λ s. self.new.returned ≡ None) }
+    {
+        let mut stream = self.accept(has_room)?;
+        match self.register(&mut stream, token) {
+            Ok(()) => Some(stream),
+            Err(error) => {
+                self.take_back(stream, IoFailure::of(&error));
+                None
+            }
+        }
+    }
+
     /// Notes why no more connections are accepted for now.
     fn hold_back(&mut self, standing: Standing, reason: WaitReason)
         ensures returned { self.new.returned ≡ self.old.returned }

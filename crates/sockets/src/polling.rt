@@ -10,6 +10,12 @@ use std::time::Duration;
 /// The most events that one wait tells.
 pub const EVENTS: usize = 64;
 
+/// The token of the listener. Those of connections are smaller than that of standard input.
+pub const LISTENER: Token = Token(usize::MAX);
+
+/// The token of standard input.
+pub const STDIN: Token = Token(usize::MAX - 1);
+
 /// Registers a stream, so that its events come under this token. Its bytes are sent as they are
 /// written (`TCP_NODELAY`).
 ///

@@ -2,10 +2,11 @@
 
 ghost use Rattle.std.specs.Prelude.{◌≡◌, None, false};
 
+use crate::polling;
 use mio::unix::SourceFd;
 use mio::{Events, Interest, Registry, Token};
 use std::alloc::Global;
-use std::io::{BufRead, ErrorKind};
+use std::io::{BufRead, ErrorKind, Input};
 
 /// The descriptor of standard input.
 const STDIN: i32 = 0;
@@ -75,4 +76,16 @@ impl<I: BufRead + Drop> Stdin<I> {
         let watched = registry.reregister(&mut SourceFd(&STDIN), self.token, Interest::READABLE);
         self.ended = ended || watched.is_err();
     }
+}
+
+/// Begins to watch standard input under the token `STDIN` of this crate, if its end is waited for.
+pub fn watch_stdin<R: Input>(rt: &R, is_waited_for: bool, registry: &Registry) -> Stdin<R::Reader>
+    ensures { is_waited_for ≡ false → result.reader ≡ None }
+{
+    let reader = if is_waited_for {
+        Some(rt.reader())
+    } else {
+        None
+    };
+    Stdin::new(reader, registry, polling::STDIN)
 }

@@ -4,7 +4,7 @@
 //! A script is text, one rule a line. `Script::parse` reads one, or tells the line at fault and
 //! why. Each request meets the first live rule that it is for, and that rule has one use fewer
 //! then. What it does is its `Action`, and what becomes of the bytes of a reply is the `Flow` of
-//! that. `Delays` notes which connections a message is held of, and until when.
+//! that.
 //!
 //! Stands on doc_query, bson_json_read, script_lines and command_parts. Read first: `rule`, then
 //! `script`, and then `parse`.
@@ -12,7 +12,6 @@
 
 mod action;
 mod asked;
-mod delays;
 mod fault;
 mod keyword;
 pub mod laws;
@@ -26,7 +25,6 @@ mod token;
 mod written;
 
 pub use action::{Action, Flow};
-pub use delays::Delays;
 pub use fault::{Cause, ScriptFault};
 pub use script::Script;
 pub use scripted::Scripted;

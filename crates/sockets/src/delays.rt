@@ -2,8 +2,8 @@
 
 ghost use Rattle.std.specs.Prelude.{◌≡◌, ◌++◌, ◌∷◌, [], IfOk, MatchOption, OnErr, OnOk};
 ghost use Rattle.std.specs.Prelude.{IsSome, is_some, true};
-ghost use Rattle.test_script.specs.Delaying.{IsHeldFor, IsTaken, index_of, without};
-ghost use Rattle.test_script.specs.declared.delays.Delay.{Delay};
+ghost use Rattle.sockets.specs.Delaying.{IsHeldFor, IsTaken, index_of, without};
+ghost use Rattle.sockets.specs.declared.delays.Delay.{Delay};
 
 use std::alloc::Global;
 use std::io;

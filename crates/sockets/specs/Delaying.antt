@@ -3,7 +3,7 @@ use Rattle.std.specs.Prelude.{◌≡◌, ◌==◌, ◌*◌, ◌+◌, ℕ, List, 
 use Rattle.std.specs.Prelude.{IsSome, MatchOption, position, remove, slice_get}
 use Rattle.std.specs.Time.{FitsClock, instant_nanos}
 use Rattle.std.specs.declared.time.Instant.{Instant}
-use Rattle.test_script.specs.declared.delays.Delay.{Delay}
+use Rattle.sockets.specs.declared.delays.Delay.{Delay}
 
 -- the index of the first connection that has this key
 abbrev pub index_of : ℕ → List Delay → Option ℕ
