@@ -1,5 +1,5 @@
--- What a parse of the command line holds: an address, and a number of connections where one was given.
-use Rattle.std.proofs.Common.{zero, suc, ◌≡◌, ◌∙◌, ◌<◌, ◌≤◌, ◌&&◌, ◌||◌, ap, refl, sym, subst, ℕ, Bool, true, false, not, List, [], ◌∷◌, length, is_some, Option, Some, None, inl, inr, codes, arith, true≢false}
+-- What a parse of the command line holds: a number of connections where one was given.
+use Rattle.std.proofs.Common.{zero, suc, ◌≡◌, ◌∙◌, ◌<◌, ◌≤◌, ◌&&◌, ◌||◌, ap, refl, sym, subst, ℕ, Bool, true, false, not, List, [], ◌∷◌, length, Option, Some, None, inl, inr, codes, arith, true≢false}
 use Rattle.std.specs.Prelude.{IfSome, option_and_then, option_map, map, slice_get}
 use Rattle.std.specs.Borrow.{Bor}
 use Rattle.std.specs.List.{All, list_any, slice_index_or}
@@ -9,8 +9,8 @@ use Rattle.std.proofs.lemmas.List.{length-map}
 use Rattle.std.proofs.lemmas.List.Elements.{All-get_or}
 use Rattle.std.proofs.lemmas.Slice.Eq.{bytes_eq-Decides}
 use Rattle.clap.specs.Built.{IsParsedFrom, IsPlain, IsPlainArg}
-use Rattle.clap.specs.Facts.{Entry, EntryPasses, HasReading, PassesArg, args_of, groups_of, parser_of, parser_of_value, unwrap_or_range}
-use Rattle.clap.specs.Matches.{found_of, matched_of, first_value}
+use Rattle.clap.specs.Facts.{Entry, EntryPasses, HasReading, PassesArg, args_of, groups_of, parser_of, parser_of_value}
+use Rattle.clap.specs.Matches.{found_of, matched_of}
 use Rattle.clap.specs.Simple.{App, app_of}
 use Rattle.clap.specs.Values.{Accepts, IsUnsignedIn, read_as, reading_of}
 use Rattle.clap.specs.Walk.{Rule, Text, is_empty, rows_of, rule_of}
@@ -23,11 +23,11 @@ use Rattle.clap.specs.declared.builder.value_parser.ValueParser.{ValueParser}
 use Rattle.clap.specs.declared.builder.value_parser.ValueParser.TheVariants.{Unsigned}
 use Rattle.clap.specs.declared.parser.matches.ArgMatches.{ArgMatches}
 use Rattle.clap.specs.declared.parser.matches.MatchedArg.{MatchedArg}
-use Rattle.clap.proofs.CallerLemmas.{entry_by_id, required_has_value, same_rules_by_id}
-use Rattle.clap.proofs.WalkLemmas.{both, first_value-rows, one_text-rows}
+use Rattle.clap.proofs.CallerLemmas.{entry_by_id, same_rules_by_id}
+use Rattle.clap.proofs.WalkLemmas.{both, one_text-rows}
 use Rattle.command_words.specs.{HasNumber, number_rule}
-use Rattle.bsonserver.specs.CommandLine.{address_rule, command_line}
-use Rattle.bsonserver.specs.Choices.{HasAddress, HasChoice}
+use Rattle.bsonserver.specs.CommandLine.{command_line}
+use Rattle.bsonserver.specs.Choices.{HasChoice}
 
 is_nil : {X : Type 0} (xs : List X) → is_empty xs ≡ true → xs ≡ []
 is_nil [] e = refl
@@ -36,10 +36,6 @@ is_nil (x ∷ xs) e = absurd (true≢false (sym e ∙ eqb-suc-zero (length xs)))
 is_false : (b : Bool) → not b ≡ true → b ≡ false
 is_false true e = sym e
 is_false false e = refl
-
-is_none : {X : Type 0} (o : Option X) → not (is_some o) ≡ true → o ≡ None
-is_none None e = refl
-is_none (Some x) e = absurd (true≢false (sym e))
 
 -- an argument that changes nothing of how words are read, and has no rule on another, excludes nothing
 plain_arg : (a : Arg) → (rule_of a).is_simple ≡ true → (rule_of a).is_free ≡ true → IsPlainArg a
@@ -50,13 +46,6 @@ plain_arg a simple free =
     let exclusive = both (not a.exclusive) _ free in
     let conflicts = both (is_empty a.conflicts.items) _ exclusive.1 in
     (is_false a.exclusive exclusive.0, is_nil a.conflicts.items conflicts.0, is_nil a.overrides.items overrides.0, is_nil a.groups.items groups.0)
-
-no_delimiter : (a : Arg) → (rule_of a).is_simple ≡ true → a.val_delim ≡ None
-no_delimiter a simple =
-    let overrides = both (is_empty a.overrides.items) _ simple in
-    let ifs = both (is_empty a.default_vals_ifs.items) _ overrides.1 in
-    let groups = both (is_empty a.groups.items) _ ifs.1 in
-    is_none a.val_delim (both (not (is_some a.val_delim)) _ groups.1).0
 
 differs : (a b : Text) → bytes_eq a a ≡ true → bytes_eq a b ≡ false → a ≡ b → ⊥
 differs a b same other e = true≢false (sym same ∙ (ap (bytes_eq a) e ∙ other))
@@ -115,20 +104,14 @@ are_plain (a ∷ l) plain (suc k) d lt =
     are_plain l (both (rule_of a).is_free _ simple.1).1 k d (omega (arith, lt))
 
 module _ (cmd : Command) (x : Arg) (rules : map rule_of (args_of cmd) ≡ command_line.top.rules)
-    (groups : groups_of cmd ≡ []) (local : (out-Command cmd).has_globals ≡ false) (negates : (out-Command cmd).subcommand_negates_reqs ≡ false)
+    (groups : groups_of cmd ≡ []) (local : (out-Command cmd).has_globals ≡ false)
     (m : ArgMatches) (p : IsParsedFrom cmd m) where
-  abbrev first : Arg
-  first = slice_index_or (args_of cmd) 0 x
-
   abbrev second : Arg
   second = slice_index_or (args_of cmd) 1 x
 
   -- the rule at a place
   at : (j : ℕ) → rule_of (slice_index_or (args_of cmd) j x) ≡ slice_index_or command_line.top.rules j (rule_of x)
   at j = rule_at (args_of cmd) j x ∙ ap (λ (l : List Rule). slice_index_or l j (rule_of x)) rules
-
-  is_first : rule_of first ≡ address_rule
-  is_first = at 0
 
   is_second : rule_of second ≡ number_rule (codes "connections")
   is_second = at 1
@@ -145,29 +128,6 @@ module _ (cmd : Command) (x : Arg) (rules : map rule_of (args_of cmd) ≡ comman
   only id k alone j e lt same =
       let named = ap (λ (r : Rule). bytes_eq r.id id) (rule_at (args_of cmd) j e ∙ ap (λ (l : List Rule). slice_index_or l j (rule_of e)) rules) in
       only_one id k command_line.top.rules (rule_of e) alone j (subst (λ n. j < n) (sym count) lt) (sym named ∙ same)
-
-  -- ---- the operand
-
-  first_id : first.id.now ≡ codes "address"
-  first_id = ap (λ (r : Rule). r.id) is_first
-
-  only_first : (j : ℕ) (e : Arg) → j < length (args_of cmd) → bytes_eq (slice_index_or (args_of cmd) j e).id.now first.id.now ≡ true → j ≡ 0
-  only_first j e lt same = only (codes "address") 0 refl j e lt (subst (λ (t : Text). bytes_eq (slice_index_or (args_of cmd) j e).id.now t ≡ true) first_id same)
-
-  has_address : HasAddress (rows_of (found_of m))
-  has_address =
-      let has = required_has_value cmd m p plain local negates 0 x (subst (λ n. 0 < n) count (omega arith))
-      (ap (λ (r : Rule). r.required) is_first) (ap (λ (r : Rule). r.action) is_first)
-      (no_delimiter first (ap (λ (r : Rule). r.is_simple) is_first))
-      (subst (λ n. 1 ≤ n) (sym (ap (λ (r : Rule). (unwrap_or_range r.range).start_inclusive) is_first)) (omega arith))
-      only_first
-      (λ empty. differs (codes "address") [] refl refl (sym first_id ∙ empty))
-      (λ auto. elim auto [
-        | inl h ↦ differs (codes "address") (codes "help") refl refl (sym first_id ∙ h)
-        | inr h ↦ differs (codes "address") (codes "version") refl refl (sym first_id ∙ h)
-      ]) in
-      let value : is_some (first_value (found_of m) (codes "address")) ≡ true = subst (λ (t : Text). is_some (first_value (found_of m) t) ≡ true) first_id has in
-      subst (λ (o : Option Text). is_some o ≡ true) (first_value-rows (found_of m) (codes "address")) value
 
   -- ---- the option
 
@@ -257,7 +217,4 @@ parsed_has_choice cmd m is p = go (args_of cmd) refl
         let none : map rule_of [] ≡ command_line.top.rules = sym (ap (map rule_of) args) ∙ rules in
         cc
     go (x ∷ l) args =
-        let negates = ap (λ (a : App). a.top.subcommand_negates_reqs) is in (
-          has_address cmd x rules (is_nil _ fields.0) fields.1 negates m p,
-          has_number cmd x rules (is_nil _ fields.0) fields.1 negates m p,
-        )
+        has_number cmd x rules (is_nil _ fields.0) fields.1 m p

@@ -5,10 +5,9 @@ use Rattle.clap.specs.Words.{App, Rule, Text, new_app, new_rule, with_rule}
 use Rattle.clap.specs.declared.builder.action.ArgAction.TheVariants.{Set}
 use Rattle.command_words.specs.{flag_rule, number_rule, text_rule}
 
--- the required operand ADDRESS
+-- the operand ADDRESS, which may be left out
 abbrev pub address_rule : Rule
-address_rule =
-    record (new_rule (codes "address")) { action = Some Set; value_names = 1; required = true }
+address_rule = record (new_rule (codes "address")) { action = Some Set; value_names = 1 }
 
 -- the program with no argument yet: it has a version
 abbrev pub top_app : App

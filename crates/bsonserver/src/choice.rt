@@ -1,8 +1,8 @@
 //! Finds out what the words of the command line ask for.
 
-ghost use Rattle.std.specs.Prelude.{◌≡◌, IfOk, IsErrAnd, IsOkAnd, MatchResult, Some, codes, map};
+ghost use Rattle.std.specs.Prelude.{◌≡◌, IfOk, IsErrAnd, IsOkAnd, MatchResult, codes, map};
 ghost use Rattle.clap.specs.Words.{FailsBy, fault_of, first_of, found_of, rows_of};
-ghost use Rattle.bsonserver.specs.Choices.{HasAddress, HasChoice, IsChosen, IsHeld};
+ghost use Rattle.bsonserver.specs.Choices.{HasChoice, IsChosen, IsHeld, given_address};
 ghost use Rattle.bsonserver.specs.CommandLine.{command_line};
 
 use crate::command_line::program;
@@ -10,8 +10,11 @@ use clap::{ArgMatches, Error};
 use command_words::{count_of, is_given, text_of};
 use std::alloc::Global;
 
+/// The address to listen at where none is given: that at which drivers look for a server.
+const USUAL_ADDRESS: &str = "127.0.0.1:27017";
+
 /// What the command line asks for.
-#[derive(Clone, Copy, Debug, PartialEq, Eq)]
+#[derive(Clone, Copy)]
 pub struct Choice<'a> {
     /// The address to listen at.
     pub address: &'a str,
@@ -27,14 +30,14 @@ pub struct Choice<'a> {
     pub script: Option<&'a str>,
 }
 
-/// Returns the operand ADDRESS.
+/// Returns the operand ADDRESS, or the usual address if it wasn't given.
 fn address_of<'a>(matches: &ArgMatches<'a>) -> &'a str
-    requires { HasAddress (rows_of (found_of matches.now)) }
-    ensures { first_of (codes "address") (rows_of (found_of matches.now)) ≡ Some result.now }
+    ensures { result.now
+        ≡ given_address (first_of (codes "address") (rows_of (found_of matches.now))) }
 {
-    match matches.get_str("address") {
+    match text_of(matches, "address") {
         Some(address) => address,
-        None => unreachable!(),
+        None => USUAL_ADDRESS,
     }
 }
 

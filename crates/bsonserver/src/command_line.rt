@@ -10,8 +10,8 @@ use std::alloc::{AllocError, Global};
 
 /// What help says at its end.
 const AFTER_HELP: &str = "Examples:
-  bsonserver 127.0.0.1:27017
-      Serves drivers until it is stopped, and shows what they send
+  bsonserver
+      Serves drivers at 127.0.0.1:27017 until it is stopped, and shows what they send
   bsonserver --quiet --until-stdin-closes --port-file port 127.0.0.1:0
       Serves a run of tests at a free port, and ends with standard input
 
@@ -28,9 +28,8 @@ fn address_operand<'a>(alloc: Global) -> Arg<'a>
 {
     Arg::new(alloc, "address")
         .value_name("ADDRESS")
-        .help("The address to listen at, as 127.0.0.1:27017; port 0 takes a free one")
+        .help("The address to listen at, 127.0.0.1:27017 if left out; port 0 takes a free one")
         .action(ArgAction::Set)
-        .required(true)
 }
 
 /// Makes the command line without its operand and its options.
