@@ -15,8 +15,8 @@ nothing_more (Some x) = sym (append-nil x)
 -- a quiet server shows nothing of what it does
 pub quiet_shows : {E : Type 0} (r : Result (Unit {0}) E) (old new : Connected) (a : Option (List ℕ))
     → OnOk r (GoesOnServing old new None None) → OnOk r (ShowsServing true old new a a)
-quiet_shows (Ok u) old new a served = λ first guide ended text serving.
-    let went = served first guide ended text serving in (went.0, went.1, went.2, nothing_more a)
+quiet_shows (Ok u) old new a served = λ first replies ended text serving.
+    let went = served first replies ended text serving in (went.0, went.1, went.2, nothing_more a)
 quiet_shows (Err e) old new a served = tt
 
 -- ---- how a run ends
@@ -33,12 +33,12 @@ refused_ends choice (runs.ScriptFile error) a refused = (refused, all_kept a)
 refused_ends choice (runs.Stopped why) a refused = tt
 
 -- a run by the rules that were read ends so
-pub run_ends : (choice : Choice) (rules guide : List RuleView) (end : ServingEnd) (a b : Option (List ℕ)) → AreRead (script_file choice) rules guide → IsRun choice rules guide end a b
+pub run_ends : (choice : Choice) (rules replies : List RuleView) (end : ServingEnd) (a b : Option (List ℕ)) → AreRead (script_file choice) rules replies → IsRun choice rules replies end a b
     → EndsSo choice end a b
-run_ends choice rules guide (runs.Served n) a b read ran = (rules, guide, read, ran)
-run_ends choice rules guide (runs.Script fault) a b read ran = absurd ran
-run_ends choice rules guide (runs.ScriptFile error) a b read ran = absurd ran
-run_ends choice rules guide (runs.Stopped why) a b read ran = tt
+run_ends choice rules replies (runs.Served n) a b read ran = (rules, replies, read, ran)
+run_ends choice rules replies (runs.Script fault) a b read ran = absurd ran
+run_ends choice rules replies (runs.ScriptFile error) a b read ran = absurd ran
+run_ends choice rules replies (runs.Stopped why) a b read ran = tt
 
 -- ---- counts
 

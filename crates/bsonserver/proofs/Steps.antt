@@ -14,7 +14,7 @@ use Rattle.wire_peer.specs.{Does, Stops, log_of}
 use Rattle.wire_peer.specs.declared.log.Logged.{Logged}
 use Rattle.test_script.specs.{RuleView}
 use Rattle.test_script.specs.declared.action.Flow.{Flow}
-use Rattle.bsonserver.specs.Guides.{last_flow, rules_after}
+use Rattle.bsonserver.specs.Replies.{last_flow, rules_after}
 use Rattle.bsonserver.specs.Serving.{EndsTurn, IsForgotten, IsSteered, IsStepped, Serves, ServesOn, TakesTurn, counted_after, ended_after, gate_after, opened, reply_flow, took}
 use Rattle.bsonserver.specs.Transcript.{end_text, new_text, told_text}
 use Rattle.bsonserver.specs.declared.serving.Serving.{Serving}
@@ -52,7 +52,7 @@ counts_turn turns.Waits n old new is counted = counted ∙ is
 module _ {H L : Type 0} (does : Does H) (stops : Stops H) (t : Tells L) (gate : L → Gate) where
   -- the rules by which a server says what becomes of replies
   abbrev rules_of : Serving L H → List RuleView
-  rules_of s = s.guide.script.rules.items
+  rules_of s = s.replies.script.rules.items
 
   -- the connection goes on, and its link was steered
   steers_on : (how : Turned) (key : ℕ) (flow : Option Flow) (old new : Slab (SeatSeen L)) → GoesOn how → IsSteered t gate (reply_flow (get old key) flow) key old new

@@ -1,5 +1,5 @@
 pub mod Transcript
-pub mod Guides
+pub mod Replies
 pub mod Serving
 pub mod CommandLine
 pub mod Choices

@@ -3,10 +3,10 @@ use Rattle.std.specs.Prelude.{◌≡◌, ◌≢◌, ◌≤◌, ◌⊎◌, ℕ, z
 use Rattle.std.specs.Prelude.{◌++◌, Option, None, Some, codes, is_some, option_map}
 use Rattle.std.specs.Fmt.{decimal}
 use Rattle.std.specs.Io.KnownBytes.{Appends, Keeps}
-use Rattle.std.specs.Net.Text.{socket_text}
 use Rattle.std.specs.declared.net.socket_addr.SocketAddr.{SocketAddr}
 use Rattle.clap.specs.Words.{Text}
 use Rattle.mio.specs.declared.net.stream.TcpStream.{TcpStream}
+use Rattle.sockets.specs.{listening_line}
 use Rattle.test_store.specs.{Answered, StopsAt, empty_store, store_of}
 use Rattle.test_script.specs.{FailsAt, IsAnswered, IsScript, IsStopped, RuleView}
 use Rattle.test_script.specs.declared.fault.Cause.TheVariants as causes
@@ -17,35 +17,27 @@ use Rattle.wire_hall.specs.{Tells, tells}
 use Rattle.wire_hall.specs.declared.valve.Valve.{Valve}
 use Rattle.wire_stream.specs.declared.tcp_link.TcpLink.{TcpLink}
 use Rattle.bsonserver.specs.declared.choice.Choice.{Choice}
-use Rattle.bsonserver.specs.declared.drained.Drained.{Drained}
+use Rattle.bsonserver.specs.declared.edge_triggered.EdgeTriggered.{EdgeTriggered}
 use Rattle.bsonserver.specs.declared.stop.ServingEnd.{ServingEnd}
 use Rattle.bsonserver.specs.declared.stop.ServingEnd.TheVariants as runs
 use Rattle.bsonserver.specs.declared.serving.Serving.{Serving}
 use Rattle.bsonserver.specs.declared.stop.Stop.TheVariants as stops
 use Rattle.bsonserver.specs.Serving.{IsServing, ServesOn}
 
--- the first line, which says where the server listens
-abbrev pub listening_line : SocketAddr → List ℕ
-listening_line local = codes "listening " ++ (socket_text local ++ codes "\n")
-
 -- the last line, which says how many connections were served
 abbrev pub served_line : ℕ → List ℕ
 served_line count = codes "served " ++ (decimal count ++ codes "\n")
 
--- what a file of the port has
-abbrev pub port_text : ℕ → List ℕ
-port_text port = decimal port ++ codes "\n"
-
 -- What a gate before a link over a socket tells: no bytes, since no contract says what a socket
 -- carries.
-abbrev pub socket_tells : Tells (Valve (TcpLink (Drained TcpStream)))
+abbrev pub socket_tells : Tells (Valve (TcpLink (EdgeTriggered TcpStream)))
 socket_tells =
     tells (λ valve. None) (λ valve. None) (λ valve. valve.link.ends) (λ valve. valve.link.waits)
     (λ valve. valve.failures)
 
 -- the connections of the program
 abbrev pub Connected : Type 0
-Connected = Serving (Valve (TcpLink (Drained TcpStream))) (Scripted Store)
+Connected = Serving (Valve (TcpLink (EdgeTriggered TcpStream))) (Scripted Store)
 
 -- what is written of a transcript: nothing by a quiet server
 abbrev pub shown : (quiet : Bool) → List ℕ → List ℕ
@@ -57,9 +49,9 @@ shown false text = text
 -- written.
 abbrev pub StandsAt : Scripted Store → List RuleView → Connected → (ended : ℕ) → (text : List ℕ)
     → Type 0
-StandsAt first guide s ended text =
+StandsAt first replies s ended text =
     IsServing (IsAnswered Answered) (IsStopped StopsAt) socket_tells (λ valve. valve.gate) first
-    guide s ended text
+    replies s ended text
 
 -- The server served on between these two moments, and wrote what it did.
 abbrev pub GoesOnServing : (old new : Connected) → Option (List ℕ) → Option (List ℕ) → Type 0
@@ -71,18 +63,18 @@ GoesOnServing old new before after =
 abbrev pub ShowsServing : (quiet : Bool) → (old new : Connected) → Option (List ℕ)
     → Option (List ℕ) → Type 0
 ShowsServing quiet old new before after =
-    (first : Scripted Store) (guide : List RuleView) (ended : ℕ) (text : List ℕ)
-    → StandsAt first guide old ended text
-    → (more : ℕ) × (told : List ℕ) × StandsAt first guide new more (text ++ told)
+    (first : Scripted Store) (replies : List RuleView) (ended : ℕ) (text : List ℕ)
+    → StandsAt first replies old ended text
+    → (more : ℕ) × (told : List ℕ) × StandsAt first replies new more (text ++ told)
     × Appends before after (shown quiet told)
 
 -- no connection was served yet, the script has these rules, those that say what becomes of replies
 -- are these, and no documents are held
-pub record HasBegun (rules guide : List RuleView) (s : Connected) : Type 0 where
+pub record HasBegun (rules replies : List RuleView) (s : Connected) : Type 0 where
   pub first : Scripted Store
   pub script : first.script.rules.items ≡ rules
   pub nothing : store_of first.inner ≡ empty_store
-  pub serving : StandsAt first guide s 0 []
+  pub serving : StandsAt first replies s 0 []
 
 -- as many connections were served as the words ask for, or fewer, where they say to end when
 -- standard input does
@@ -93,7 +85,7 @@ IsEnough choice n = (choice.connections ≤ n) ⊎ (choice.until_stdin_closes �
 -- say what becomes of replies were these, and it held no documents, it served until enough
 -- connections had ended, of which it counts no more than were asked for, and wrote what is shown of
 -- what it did.
-pub record HasServed (choice : Choice) (rules guide : List RuleView) (count : ℕ)
+pub record HasServed (choice : Choice) (rules replies : List RuleView) (count : ℕ)
     (before after : Option (List ℕ)) : Type 0 where
   pub first : Scripted Store
   pub script : first.script.rules.items ≡ rules
@@ -101,36 +93,36 @@ pub record HasServed (choice : Choice) (rules guide : List RuleView) (count : �
   pub connections : Connected
   pub ended : ℕ
   pub text : List ℕ
-  pub serving : StandsAt first guide connections ended text
+  pub serving : StandsAt first replies connections ended text
   pub enough : IsEnough choice ended
   pub counted : count ≡ min ended choice.connections
   pub local : SocketAddr
   pub written : Appends before after (listening_line local ++ shown choice.quiet text)
 
 -- what comes before the last line: nothing if no connection is asked for
-abbrev pub IsBegun : Choice → (rules guide : List RuleView) → (asked count : ℕ)
+abbrev pub IsBegun : Choice → (rules replies : List RuleView) → (asked count : ℕ)
     → Option (List ℕ) → Option (List ℕ) → Type 0
-IsBegun choice rules guide zero count before after = (count ≡ 0) × Keeps before after
-IsBegun choice rules guide (suc n) count before after =
-    HasServed choice rules guide count before after
+IsBegun choice rules replies zero count before after = (count ≡ 0) × Keeps before after
+IsBegun choice rules replies (suc n) count before after =
+    HasServed choice rules replies count before after
 
 -- this many connections were served, and the last line says so
-abbrev pub IsRun : Choice → (rules guide : List RuleView) → ServingEnd → Option (List ℕ)
+abbrev pub IsRun : Choice → (rules replies : List RuleView) → ServingEnd → Option (List ℕ)
     → Option (List ℕ) → Type 0
-IsRun choice rules guide (runs.Served n) before after =
-    (mid : Option (List ℕ)) × IsBegun choice rules guide choice.connections n before mid
+IsRun choice rules replies (runs.Served n) before after =
+    (mid : Option (List ℕ)) × IsBegun choice rules replies choice.connections n before mid
     × Appends mid after (served_line n)
-IsRun choice rules guide (runs.Script fault) before after = ⊥
-IsRun choice rules guide (runs.ScriptFile error) before after = ⊥
-IsRun choice rules guide (runs.Stopped why) before after = Unit {0}
+IsRun choice rules replies (runs.Script fault) before after = ⊥
+IsRun choice rules replies (runs.ScriptFile error) before after = ⊥
+IsRun choice rules replies (runs.Stopped why) before after = Unit {0}
 
 -- ---- the script
 
 -- The rules that answers follow, and those that say what becomes of replies: none if no file of a
 -- script is named, and else both are those of one text.
-abbrev pub AreRead : (file : Option Text) → (rules guide : List RuleView) → Type 0
-AreRead None rules guide = (rules ≡ []) × (guide ≡ [])
-AreRead (Some file) rules guide = (text : List ℕ) × IsScript text rules × IsScript text guide
+abbrev pub AreRead : (file : Option Text) → (rules replies : List RuleView) → Type 0
+AreRead None rules replies = (rules ≡ []) × (replies ≡ [])
+AreRead (Some file) rules replies = (text : List ℕ) × IsScript text rules × IsScript text replies
 
 -- a file of a script is named, and a text fails so, but not for want of memory
 abbrev pub IsMisread : (file : Option Text) → ScriptFault → Type 0
@@ -154,8 +146,8 @@ script_file choice = option_map (λ file. file.now) choice.script
 -- the script is at fault or can't be read, and nothing was written.
 abbrev pub EndsSo : Choice → ServingEnd → Option (List ℕ) → Option (List ℕ) → Type 0
 EndsSo choice (runs.Served n) before after =
-    (rules : List RuleView) × (guide : List RuleView) × AreRead (script_file choice) rules guide
-    × IsRun choice rules guide (runs.Served n) before after
+    (rules : List RuleView) × (replies : List RuleView) × AreRead (script_file choice) rules replies
+    × IsRun choice rules replies (runs.Served n) before after
 EndsSo choice (runs.Script fault) before after =
     IsMisread (script_file choice) fault × Keeps before after
 EndsSo choice (runs.ScriptFile error) before after =

@@ -19,7 +19,7 @@ use Rattle.wire_peer.specs.declared.server_state.ServerCause.TheVariants as caus
 use Rattle.bsonserver.specs.declared.serving.Serving.{Serving}
 use Rattle.bsonserver.specs.declared.stop.Stop.{Stop}
 use Rattle.bsonserver.specs.declared.stop.Stop.TheVariants as stopped
-use Rattle.bsonserver.specs.Guides.{gate_for, last_flow, rules_after}
+use Rattle.bsonserver.specs.Replies.{gate_for, last_flow, rules_after}
 use Rattle.bsonserver.specs.Transcript.{end_text, new_text, told_text}
 
 -- the server stops after a connection that ran out of memory, and after no other
@@ -111,7 +111,8 @@ pub record TakesTurn {H L : Type 0} (does : Does H) (stops : Stops H) (t : Tells
     (before after : Option (List ℕ)) : Type 0 where
   pub told : List ℕ
   pub turn : IsTurnTaken does stops t gate key how old.hall.seats old.hall.logged
-      old.guide.script.rules.items new.hall.seats new.hall.logged new.guide.script.rules.items told
+      old.replies.script.rules.items new.hall.seats new.hall.logged
+      new.replies.script.rules.items told
   pub next : new.hall.next ≡ old.hall.next
   pub ended : new.ended ≡ counted_after how old.ended
   pub written : Appends before after told
@@ -148,7 +149,7 @@ pub record IsServing {H L : Type 0} (does : Does H) (stops : Stops H) (t : Tells
     (gate : L → Gate) (first : H) (script : List RuleView) (s : Serving L H) (ended : ℕ)
     (text : List ℕ) : Type 0 where
   pub serves : Serves does stops t gate first script ended s.hall.seats s.hall.logged s.hall.next
-      s.guide.script.rules.items text
+      s.replies.script.rules.items text
   pub counts : s.ended ≡ min ended 18446744073709551615
 
 -- The server served on between these two moments, and wrote what it did.

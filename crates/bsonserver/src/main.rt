@@ -21,12 +21,14 @@
 mod choice;
 mod command_line;
 mod connections;
-mod drained;
-mod guide;
+mod edge_triggered;
+mod event_loop;
 mod output;
+mod reply_rules;
 mod run;
 mod scripts;
 mod serving;
+mod sources;
 mod stop;
 mod transcript;
 

@@ -4,107 +4,64 @@ ghost use Rattle.std.specs.Prelude.{◌≡◌, ◌<◌, IfOk, List, OnOk, Option
 ghost use Rattle.std.specs.declared.net.socket_addr.SocketAddr.{SocketAddr};
 ghost use Rattle.text_writer.specs.{WritesOut};
 ghost use Rattle.bsonserver.specs.Runs.{EndsSo, GoesOnServing, HasBegun, HasServed, IsEnough};
-ghost use Rattle.bsonserver.specs.Runs.{IsRun, ShowsServing, listening_line, port_text};
-ghost use Rattle.bsonserver.specs.Runs.{served_line};
+ghost use Rattle.bsonserver.specs.Runs.{IsRun, ShowsServing, served_line};
+ghost use Rattle.sockets.specs.{listening_line};
+ghost use Rattle.test_script.specs.{RuleView};
 
 use crate::choice::Choice;
-use crate::connections::{Connections, ROOM, Setup};
-use crate::drained::Turns;
+use crate::connections::{Connected, begin};
+use crate::event_loop::{EventLoop, Pending};
 use crate::output::Output;
 use crate::scripts::{Scripts, read_scripts};
+use crate::sources::Sources;
 use crate::stop::{ServingEnd, Stop};
 use mio::Events;
-use mio::net::TcpListener;
-use sockets::{EVENTS, address_of};
+use sockets::{Acceptor, EVENTS, LISTENER, bind, tell_listening, tell_port, watch_stdin};
 use std::alloc::Global;
-use std::collections::VecDeque;
-use std::fs::File;
 use std::io;
 use std::io::{BufRead, ErrorKind, Input, Write};
 use std::net::{Net, SocketAddr};
 use std::rt::Files;
 use std::time::Clock;
 
-/// Writes the port.
-fn write_port<W: Write>(port: u16, out: &mut W) -> io::Result<()>
-    ensures { OnOk result (WritesOut W.contents out.old out.new (port_text port)) }
-{
-    writeln!(out, "{port}")
-}
-
-/// Writes the port to the file, if one is given.
-fn tell_port<R: Files>(rt: &R, file: Option<&str>, port: u16) -> io::Result<()> {
-    match file {
-        Some(file) => write_port(port, &mut File::create(rt, file)?),
-        None => Ok(()),
-    }
-}
-
-/// Writes and flushes the first line.
-fn write_first<W: Write>(local: SocketAddr, out: &mut W) -> io::Result<()>
-    ensures { OnOk result (WritesOut W.contents out.old out.new (listening_line local)) }
-{
-    writeln!(out, "listening {local}")?;
-    out.flush()
-}
-
 /// Listens where the words say, and writes to `out` where that is, and the port to its file.
-fn listen<R: Net + Files + Input, W: Write>(
+fn listen<R: Net + Files, W: Write>(
     rt: &R,
-    alloc: Global,
     choice: Choice<'_>,
-    again: VecDeque<usize>,
-    scripts: Scripts,
     out: &mut W,
-) -> Result<Connections<R::Reader>, Stop>
-    ensures told { OnOk result ((local : SocketAddr)
+) -> Result<Acceptor, Stop>
+    ensures { OnOk result ((local : SocketAddr)
         × WritesOut W.contents out.old out.new (listening_line local)) }
-    ensures begun { IfOk result (λ c. HasBegun scripts.script.rules.items
-        scripts.guide.rules.items c.serving) }
 {
-    let turns = Turns::new(alloc)?;
-    let listener = TcpListener::bind(rt, address_of(rt, choice.address)?)?;
+    let listener = bind(rt, choice.address)?;
     let local = listener.local_addr()?;
-    write_first(local, out).map_err(Stop::Output)?;
+    tell_listening(local, out).map_err(Stop::Output)?;
     tell_port(rt, choice.port_file, local.port()).map_err(Stop::PortFile)?;
-    let reader = if choice.until_stdin_closes {
-        Some(rt.reader())
-    } else {
-        None
-    };
-    let setup = Setup {
-        listener,
-        reader,
-        wanted: choice.connections,
-        turns,
-        again,
-        scripts,
-    };
-    let connections = Connections::new(rt, alloc, setup)?;
-    Ok(connections)
+    let acceptor = Acceptor::new(rt, listener, LISTENER, choice.connections)?;
+    Ok(acceptor)
 }
 
 /// Serves connections until as many of them ended as the words ask for, or until standard input
 /// ends, if they say so.
 fn serve_until<R: Clock + Eprint, I: BufRead + Drop, W: Output>(
     rt: &R,
-    connections: &mut Connections<I>,
-    events: &mut Events<Global>,
+    sources: &mut Sources<I>,
+    serving: &mut Connected,
     choice: Choice<'_>,
     out: &mut W,
 ) -> Result<(), Stop>
-    ensures enough { OnOk result (IsEnough choice.entry connections.new.serving.ended) }
-    ensures served { OnOk result (GoesOnServing connections.old.serving connections.new.serving
+    ensures enough { OnOk result (IsEnough choice.entry serving.new.ended) }
+    ensures served { OnOk result (GoesOnServing serving.old serving.new
         (W.contents out.old) (W.contents out.new)) }
 {
     for _ in 0..u64::MAX {
-        if connections.serving.ended() >= choice.connections {
+        if serving.ended() >= choice.connections {
             return Ok(());
         }
-        if choice.until_stdin_closes && connections.has_input_ended() {
+        if choice.until_stdin_closes && sources.has_input_ended() {
             return Ok(());
         }
-        connections.serve_some(rt, events, out)?;
+        sources.serve_some(rt, serving, out)?;
     }
     // No server serves some that often.
     Err(Stop::InOut(io::Error::from(ErrorKind::Other)))
@@ -113,35 +70,51 @@ fn serve_until<R: Clock + Eprint, I: BufRead + Drop, W: Output>(
 /// Serves connections, and writes nothing.
 fn serve_quietly<R: Clock + Eprint, I: BufRead + Drop>(
     rt: &R,
-    connections: &mut Connections<I>,
-    events: &mut Events<Global>,
+    sources: &mut Sources<I>,
+    serving: &mut Connected,
     choice: Choice<'_>,
 ) -> Result<(), Stop>
-    ensures enough { OnOk result (IsEnough choice.entry connections.new.serving.ended) }
+    ensures enough { OnOk result (IsEnough choice.entry serving.new.ended) }
     ensures served { (a : Option (List ℕ)) → OnOk result (ShowsServing true
-        connections.old.serving connections.new.serving a a) }
+        serving.old serving.new a a) }
 {
-    serve_until(rt, connections, events, choice, &mut io::sink())
+    serve_until(rt, sources, serving, choice, &mut io::sink())
 }
 
 /// Serves connections, and writes what was asked and answered, unless the words ask for quiet.
 fn serve_shown<R: Clock + Eprint, I: BufRead + Drop, W: Output>(
     rt: &R,
-    connections: &mut Connections<I>,
-    events: &mut Events<Global>,
+    sources: &mut Sources<I>,
+    serving: &mut Connected,
     choice: Choice<'_>,
     out: &mut W,
 ) -> Result<(), Stop>
-    ensures enough { OnOk result (IsEnough choice.entry connections.new.serving.ended) }
-    ensures served { OnOk result (ShowsServing choice.entry.quiet
-        connections.old.serving connections.new.serving
+    ensures enough { OnOk result (IsEnough choice.entry serving.new.ended) }
+    ensures served { OnOk result (ShowsServing choice.entry.quiet serving.old serving.new
         (W.contents out.old) (W.contents out.new)) }
 {
     if choice.quiet {
-        serve_quietly(rt, connections, events, choice)
+        serve_quietly(rt, sources, serving, choice)
     } else {
-        serve_until(rt, connections, events, choice, out)
+        serve_until(rt, sources, serving, choice, out)
     }
+}
+
+/// Listens where the words say, and writes to `out` where that is. Returns where events come from.
+fn begin_at<R: Net + Files + Input, W: Write>(
+    rt: &R,
+    alloc: Global,
+    choice: Choice<'_>,
+    out: &mut W,
+) -> Result<Sources<R::Reader>, Stop>
+    ensures { OnOk result ((local : SocketAddr)
+        × WritesOut W.contents out.old out.new (listening_line local)) }
+{
+    let events = Events::with_capacity(alloc, EVENTS)?;
+    let pending = Pending::new(alloc)?;
+    let acceptor = listen(rt, choice, out)?;
+    let stdin = watch_stdin(rt, choice.until_stdin_closes, acceptor.registry());
+    Ok(Sources::new(events, EventLoop::new(acceptor, pending), stdin))
 }
 
 /// Listens where the words say, and writes to `out` where that is, and serves connections until
@@ -150,17 +123,16 @@ fn serve_all<R: Net + Files + Input + Clock + Eprint, W: Output>(
     rt: &R,
     alloc: Global,
     choice: Choice<'_>,
-    scripts: Scripts,
+    serving: &mut Connected,
     out: &mut W,
 ) -> Result<u64, Stop>
-    ensures { IfOk result (λ n. HasServed choice.entry scripts.script.rules.items
-        scripts.guide.rules.items n (W.contents out.old) (W.contents out.new)) }
+    ensures { (rules replies : List RuleView) → HasBegun rules replies serving.old
+        → IfOk result (λ n. HasServed choice.entry rules replies n
+        (W.contents out.old) (W.contents out.new)) }
 {
-    let mut events = Events::with_capacity(alloc, EVENTS)?;
-    let again = VecDeque::with_capacity(alloc, ROOM)?;
-    let mut connections = listen(rt, alloc, choice, again, scripts, out)?;
-    serve_shown(rt, &mut connections, &mut events, choice, out)?;
-    Ok(told_count(connections.serving.ended(), choice.connections))
+    let mut sources = begin_at(rt, alloc, choice, out)?;
+    serve_shown(rt, &mut sources, serving, choice, out)?;
+    Ok(told_count(serving.ended(), choice.connections))
 }
 
 /// Returns how many of the connections that ended are told: no more than were asked for, which is a
@@ -189,12 +161,13 @@ fn serve_at<R: Net + Files + Input + Clock + Eprint, W: Output>(
     scripts: Scripts,
     out: &mut W,
 ) -> ServingEnd
-    ensures { IsRun choice.entry scripts.script.rules.items scripts.guide.rules.items
+    ensures { IsRun choice.entry scripts.script.rules.items scripts.replies.rules.items
         result (W.contents out.old) (W.contents out.new) }
 {
     let mut count = 0;
     if choice.connections > 0 {
-        match serve_all(rt, alloc, choice, scripts, out) {
+        let mut serving = begin(alloc, scripts);
+        match serve_all(rt, alloc, choice, &mut serving, out) {
             Ok(served) => count = served,
             Err(stop) => return ServingEnd::Stopped(stop),
         }

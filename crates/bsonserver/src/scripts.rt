@@ -15,7 +15,7 @@ use test_script::{Cause, Script, ScriptFault};
 #[derive(Drop)]
 pub struct Scripts {
     pub script: Script,
-    pub guide: Script,
+    pub replies: Script,
 }
 
 /// Reads the script out of its text.
@@ -25,12 +25,12 @@ pub struct Scripts {
 /// Returns the first line that is no rule, and why.
 fn parse_scripts(alloc: Global, text: &[u8]) -> Result<Scripts, ScriptFault>
     ensures script { IfOk result (λ s. IsScript text.now s.script.rules.items) }
-    ensures guide { IfOk result (λ s. IsScript text.now s.guide.rules.items) }
+    ensures replies { IfOk result (λ s. IsScript text.now s.replies.rules.items) }
     ensures fault { IfErr result (λ fault. FailsAt text.now fault) }
 {
     let script = Script::parse(alloc, text)?;
-    let guide = Script::parse(alloc, text)?;
-    Ok(Scripts { script, guide })
+    let replies = Script::parse(alloc, text)?;
+    Ok(Scripts { script, replies })
 }
 
 /// Reads the script, if a file of one is given, and else makes the one without rules.
@@ -40,13 +40,13 @@ pub fn read_scripts<R: Files + Alloc>(
     file: Option<&str>,
 ) -> Result<Scripts, ServingEnd>
     ensures read { IfOk result (λ s. AreRead (option_map (λ f. f.now) file.entry)
-        s.script.rules.items s.guide.rules.items) }
+        s.script.rules.items s.replies.rules.items) }
     ensures refused { IfErr result (λ end. IsRefused (option_map (λ f. f.now) file.entry) end) }
 {
     let Some(file) = file else {
         return Ok(Scripts {
             script: Script::new(alloc),
-            guide: Script::new(alloc),
+            replies: Script::new(alloc),
         });
     };
     let text = match fs::read(rt, file) {

@@ -11,8 +11,8 @@ ghost use Rattle.bsonserver.specs.Serving.{IsServing, IsSteered, IsStepped, Serv
 ghost use Rattle.bsonserver.specs.Serving.{gate_after, reply_flow, settled};
 ghost use Rattle.bsonserver.specs.Transcript.{end_text, told_text};
 
-use crate::guide::{Guide, gate_for};
 use crate::output::Output;
+use crate::reply_rules::{ReplyRules, gate_for};
 use crate::stop::Stop;
 use crate::transcript::{write_end, write_entries, write_new};
 use std::alloc::Global;
@@ -73,25 +73,25 @@ fn gate_after(flow: Flow, gate: Gate) -> Gate
     }
 }
 
-/// The connections that are served, and how many ended, with the guide to what becomes of replies.
+/// The connections that are served, and how many ended, with the replies to what becomes of replies.
 #[derive(Drop)]
 pub struct Serving<L, H> {
     hall: Hall<L, H>,
     ended: u64,
-    guide: Guide,
+    replies: ReplyRules,
 }
 
 impl<L: Gated + Drop, H: Handler + Drop> Serving<L, H> {
-    /// Begins without connections. Requests are asked of `handler`, and told to `guide`.
-    pub fn new(alloc: Global, handler: H, guide: Guide) -> Serving<L, H>
+    /// Begins without connections. Requests are asked of `handler`, and told to `replies`.
+    pub fn new(alloc: Global, handler: H, replies: ReplyRules) -> Serving<L, H>
         ensures { IsServing H.does H.stops
             (tells L.received L.sent L.ends L.waits L.failures) L.gate handler
-            guide.script.rules.items result 0 [] }
+            replies.script.rules.items result 0 [] }
     {
         Serving {
             hall: Hall::new(alloc, handler),
             ended: 0,
-            guide,
+            replies,
         }
     }
 
@@ -110,19 +110,19 @@ impl<L: Gated + Drop, H: Handler + Drop> Serving<L, H> {
     }
 
     /// Returns true if there are no rules, so that each reply goes as it comes.
-    pub fn is_unguided(&self) -> bool
-        ensures { IsTrue result ↔ (self.now.guide.script.rules.items ≡ []) }
+    pub fn has_no_rules(&self) -> bool
+        ensures { IsTrue result ↔ (self.now.replies.script.rules.items ≡ []) }
     {
-        self.guide.is_idle()
+        self.replies.is_idle()
     }
 
     /// Returns what becomes of the reply that the connection of this key put out in the last turn,
     /// if that was its turn, and it put one out and has it to send.
     pub fn flow(&self, key: usize) -> Option<Flow>
-        ensures { result ≡ reply_flow (get self.now.hall.seats key) self.now.guide.flow }
+        ensures { result ≡ reply_flow (get self.now.hall.seats key) self.now.replies.flow }
     {
         match self.hall.seat(key) {
-            Some(seat) if !seat.output().is_empty() => self.guide.flow(),
+            Some(seat) if !seat.output().is_empty() => self.replies.flow(),
             _ => None,
         }
     }
@@ -136,9 +136,9 @@ impl<L: Gated + Drop, H: Handler + Drop> Serving<L, H> {
 
     /// Returns how many steps a turn has that may have `most`: one where there are rules.
     fn steps(&self, most: u32) -> u32
-        ensures { IsStepped self.now.guide.script.rules.items result }
+        ensures { IsStepped self.now.replies.script.rules.items result }
     {
-        if self.is_unguided() { most } else { 1 }
+        if self.has_no_rules() { most } else { 1 }
     }
 
     /// Opens the connection over `link`, whose gate is open, and writes its line.
@@ -172,7 +172,7 @@ impl<L: Gated + Drop, H: Handler + Drop> Serving<L, H> {
         ensures seats { Updates self.old.hall.seats self.new.hall.seats key None }
         ensures logged { self.new.hall.logged ≡ self.old.hall.logged }
         ensures next { self.new.hall.next ≡ self.old.hall.next }
-        ensures guide { self.new.guide ≡ self.old.guide }
+        ensures replies { self.new.replies ≡ self.old.replies }
         ensures ended { (seat : SeatSeen L) → get self.old.hall.seats key ≡ Some seat
             → self.new.ended ≡ min (self.old.ended + 1) 18446744073709551615 }
     {
@@ -189,11 +189,11 @@ impl<L: Gated + Drop, H: Handler + Drop> Serving<L, H> {
     /// one out. What was cut stays cut.
     fn steer(&mut self, key: usize)
         ensures steered { IsSteered (tells L.received L.sent L.ends L.waits L.failures) L.gate
-            (reply_flow (get self.old.hall.seats key) self.old.guide.flow) key
+            (reply_flow (get self.old.hall.seats key) self.old.replies.flow) key
             self.old.hall.seats self.new.hall.seats }
         ensures logged { self.new.hall.logged ≡ self.old.hall.logged }
         ensures next { self.new.hall.next ≡ self.old.hall.next }
-        ensures guide { self.new.guide ≡ self.old.guide }
+        ensures replies { self.new.replies ≡ self.old.replies }
         ensures ended { self.new.ended ≡ self.old.ended }
     {
         let Some(flow) = self.flow(key) else {
@@ -235,7 +235,7 @@ impl<L: Gated + Drop, H: Handler + Drop> Serving<L, H> {
         let Some(turned) = self.hall.turn(key, steps) else {
             return Ok(None);
         };
-        let Ok(()) = self.guide.follow(self.hall.entries()) else {
+        let Ok(()) = self.replies.follow(self.hall.entries()) else {
             return Err(Stop::OutOfMemory);
         };
         tell(&mut self.hall, out)?;

@@ -6,7 +6,7 @@ use std::io::ErrorKind;
 use test_script::ScriptFault;
 
 /// Why the server ends.
-#[derive(Debug, Drop)]
+#[derive(Drop)]
 pub enum ServingEnd {
     /// This many connections were served.
     Served(u64),
@@ -19,7 +19,7 @@ pub enum ServingEnd {
 }
 
 /// Why the server stops early.
-#[derive(Debug, Drop)]
+#[derive(Drop)]
 pub enum Stop {
     /// Listening or waiting failed.
     InOut(io::Error),

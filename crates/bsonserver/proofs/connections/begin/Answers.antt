@@ -9,5 +9,5 @@ returns c = record {
   first = c.new-handler.result;
   script = ap (λ (s : Script). s.rules.items) c.new-handler.ensures.script;
   nothing = ap store_of c.new-handler.ensures.inner ∙ c.new-store.ensures;
-  serving = subst (λ rules. StandsAt c.new-handler.result rules c.new.result 0 []) (ap (λ (s : Script). s.rules.items) c.new-guide.ensures.script) c.new.ensures;
+  serving = subst (λ rules. StandsAt c.new-handler.result rules c.new.result 0 []) (ap (λ (s : Script). s.rules.items) c.new-replies.ensures.script) c.new.ensures;
 }

@@ -3,4 +3,4 @@ use Rattle.bsonserver.proofs.run.serve_until.Given as goal
 
 -- the server served on so far
 abbrev pub invariant-loop : goal.invariant-loop
-invariant-loop g l = GoesOnServing l.initial.connections.serving l.connections.serving (g.W.Write.contents l.initial.out) (g.W.Write.contents l.out)
+invariant-loop g l = GoesOnServing l.initial.serving l.serving (g.W.Write.contents l.initial.out) (g.W.Write.contents l.out)

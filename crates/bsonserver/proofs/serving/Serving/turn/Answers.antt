@@ -3,8 +3,8 @@ use Rattle.slab.specs.Slab.{Updates, get}
 use Rattle.wire_hall.specs.{tells}
 use Rattle.wire_hall.specs.declared.turned.Turned.{Turned}
 use Rattle.wire_peer.specs.{log_of}
-use Rattle.bsonserver.specs.declared.guide.Guide.{Guide}
-use Rattle.bsonserver.specs.Guides.{Follows}
+use Rattle.bsonserver.specs.declared.reply_rules.ReplyRules.{ReplyRules}
+use Rattle.bsonserver.specs.Replies.{Follows}
 use Rattle.bsonserver.specs.Serving.{IsForgotten, IsSteered, TakesTurn, reply_flow}
 use Rattle.bsonserver.proofs.Steps.{serves_turn, turns_on, turns_over}
 use Rattle.bsonserver.proofs.serving.Serving.turn.Goals as goal
@@ -14,7 +14,7 @@ returns-in_ok-close-in-Over-clause-turned g c =
     let t = tells g.L.Link.received g.L.Link.sent g.L.Link.ends g.L.Link.waits g.L.Link.failures in
     let old = c.args.self.now in
     let made = c.turn.new.self.logged in
-    let follows = subst (λ es. Follows old.guide (log_of es) c.follow.new.self) c.entries.ensures c.in-Ok.ensures in
+    let follows = subst (λ es. Follows old.replies (log_of es) c.follow.new.self) c.entries.ensures c.in-Ok.ensures in
     let seat = c.in-Some.ensures.turned.1 in
     let there = c.in-Some.ensures.turned.3.changed in
     let stays = subst (λ s. get s c.args.key ≡ Some seat) (sym c.tell.ensures.seats) there in
@@ -25,7 +25,7 @@ returns-in_ok-close-in-Over-clause-turned g c =
     c.steps-steps.ensures c.in-Over.is c.in-Some.ensures.turned
     (subst (λ l. IsForgotten made l) (sym c.close.ensures.logged) (c.in_ok-tell.ensures.forgotten, c.tell.ensures.handler)) there
     (subst (λ s. Updates s c.close.new.self.hall.seats c.args.key None) c.tell.ensures.seats c.in_ok-close-in-Over.ensures.seats)
-    (ap (λ (u : Guide). u.script.rules.items) c.close.ensures.guide ∙ follows.0)
+    (ap (λ (u : ReplyRules). u.script.rules.items) c.close.ensures.replies ∙ follows.0)
     (c.close.ensures.next ∙ c.tell.ensures.next ∙ c.turn.ensures.next) (c.close.ensures.ended seat stays)
     c.in_ok-tell.ensures.told (c.in_ok-close-in-Over.ensures.told seat stays))
 
@@ -40,13 +40,13 @@ returns-in-Again-clause-turned g c =
     let old = c.args.self.now in
     let key = c.args.key in
     let made = c.turn.new.self.logged in
-    let follows = subst (λ es. Follows old.guide (log_of es) c.follow.new.self) c.entries.ensures c.in-Ok.ensures in
+    let follows = subst (λ es. Follows old.replies (log_of es) c.follow.new.self) c.entries.ensures c.in-Ok.ensures in
     let steered = subst (λ s. IsSteered t g.L.Gated.gate (reply_flow (get s key) c.follow.new.self.flow) key s c.steer.new.self.hall.seats) c.tell.ensures.seats c.steer.ensures.steered in
     turns_on g.H.Handler.does g.H.Handler.stops t g.L.Gated.gate old c.steer.new.self c.turn.new.self.seats made key _ c.in-Some.turned _ _
     c.in-Again.is c.steps-steps.ensures c.in-Some.ensures.turned
     (subst (λ l. IsForgotten made l) (sym c.steer.ensures.logged) (c.in_ok-tell.ensures.forgotten, c.tell.ensures.handler))
     (subst (λ f. IsSteered t g.L.Gated.gate (reply_flow (get c.turn.new.self.seats key) f) key c.turn.new.self.seats c.steer.new.self.hall.seats) follows.1 steered)
-    (ap (λ (u : Guide). u.script.rules.items) c.steer.ensures.guide ∙ follows.0)
+    (ap (λ (u : ReplyRules). u.script.rules.items) c.steer.ensures.replies ∙ follows.0)
     (c.steer.ensures.next ∙ c.tell.ensures.next ∙ c.turn.ensures.next) c.steer.ensures.ended
     c.in_ok-tell.ensures.told
 

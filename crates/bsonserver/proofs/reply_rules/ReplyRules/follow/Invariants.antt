@@ -1,7 +1,7 @@
 use Rattle.std.proofs.Common.{◌≡◌, None, length}
 use Rattle.wire_peer.specs.{log_of}
-use Rattle.bsonserver.specs.Guides.{last_flow, rules_after}
-use Rattle.bsonserver.proofs.guide.Guide.follow.Given as goal
+use Rattle.bsonserver.specs.Replies.{last_flow, rules_after}
+use Rattle.bsonserver.proofs.reply_rules.ReplyRules.follow.Given as goal
 
 -- what comes of the entries that are left is what comes of all
 abbrev pub invariant-loop-entry : goal.invariant-loop-entry

@@ -59,9 +59,9 @@ impl Turns {
     /// # Errors
     ///
     /// Returns `AllocError` if there are more streams than are counted.
-    pub fn drained<S: Drop>(&self, stream: S) -> Result<Drained<S>, AllocError> {
+    pub fn edge_triggered<S: Drop>(&self, stream: S) -> Result<EdgeTriggered<S>, AllocError> {
         let turn = self.current.clone()?;
-        Ok(Drained {
+        Ok(EdgeTriggered {
             stream,
             turn,
             emptied: None,
@@ -72,14 +72,14 @@ impl Turns {
 /// A stream of a connection that the system tells of. A read that would find nothing fails with
 /// `WouldBlock` and isn't made: since the same events a read didn't fill its buffer.
 #[derive(Drop)]
-pub struct Drained<S> {
+pub struct EdgeTriggered<S> {
     stream: S,
     turn: Rc<Cell<Option<u64>>>,
     /// The number of the events in whose turn a read left nothing last.
     emptied: Option<u64>,
 }
 
-impl<S: Read> Read for Drained<S> {
+impl<S: Read> Read for EdgeTriggered<S> {
     fn read(&mut self, buffer: &mut [u8]) -> io::Result<usize> {
         let turn = self.turn.get();
         if turn.is_some() && self.emptied == turn {
@@ -95,7 +95,7 @@ impl<S: Read> Read for Drained<S> {
     }
 }
 
-impl<S: Write> Write for Drained<S> {
+impl<S: Write> Write for EdgeTriggered<S> {
     fn write(&mut self, bytes: &[u8]) -> io::Result<usize> {
         self.stream.write(bytes)
     }

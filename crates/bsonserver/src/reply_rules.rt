@@ -3,7 +3,7 @@
 ghost use Rattle.std.specs.Prelude.{◌≡◌, ◌↔◌, [], IsTrue, None, OnOk, Some};
 ghost use Rattle.wire_peer.specs.{entry_of, log_of};
 ghost use Rattle.test_script.specs.{after, flow_by, met};
-ghost use Rattle.bsonserver.specs.Guides.{Follows, gate_for};
+ghost use Rattle.bsonserver.specs.Replies.{Follows, gate_for};
 
 use std::alloc::{AllocError, Global};
 use test_script::{Flow, Script};
@@ -13,7 +13,7 @@ use wire_peer::Entry;
 /// The rules of a script as they stand after the requests that were told, and what becomes of the
 /// reply to the last one.
 #[derive(Drop)]
-pub struct Guide {
+pub struct ReplyRules {
     alloc: Global,
     script: Script,
     flow: Option<Flow>,
@@ -30,13 +30,13 @@ pub fn gate_for(flow: Flow) -> Gate
     }
 }
 
-impl Guide {
-    /// Makes a guide by this script, to which no request was told.
-    pub fn new(alloc: Global, script: Script) -> Guide
+impl ReplyRules {
+    /// Makes a replies by this script, to which no request was told.
+    pub fn new(alloc: Global, script: Script) -> ReplyRules
         ensures script { result.script ≡ script }
         ensures flow { result.flow ≡ None }
     {
-        Guide {
+        ReplyRules {
             alloc,
             script,
             flow: None,

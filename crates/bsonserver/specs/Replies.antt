@@ -6,7 +6,7 @@ use Rattle.test_script.specs.{RuleView, after, flow_by, met}
 use Rattle.wire_hall.specs.declared.valve.Gate.{Gate}
 use Rattle.wire_hall.specs.declared.valve.Gate.TheVariants as gates
 use Rattle.wire_peer.specs.{LogEntry}
-use Rattle.bsonserver.specs.declared.guide.Guide.{Guide}
+use Rattle.bsonserver.specs.declared.reply_rules.ReplyRules.{ReplyRules}
 
 -- the gate that a flow wants; a reply that is held goes through an open one when it is let go
 abbrev pub gate_for : Flow → Gate
@@ -26,7 +26,7 @@ last_flow before rs (e ∷ es) = last_flow (Some (flow_by (met e.payload rs))) (
 
 -- The requests of these entries were told: the rules are those after them, and the flow is that of
 -- the last one, or none.
-abbrev pub Follows : Guide → List LogEntry → Guide → Type 0
+abbrev pub Follows : ReplyRules → List LogEntry → ReplyRules → Type 0
 Follows old log new =
     (new.script.rules.items ≡ rules_after log old.script.rules.items)
     × (new.flow ≡ last_flow None old.script.rules.items log)

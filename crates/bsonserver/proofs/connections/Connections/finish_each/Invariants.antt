@@ -1,6 +1,0 @@
-use Rattle.bsonserver.specs.Runs.{GoesOnServing}
-use Rattle.bsonserver.proofs.connections.Connections.finish_each.Given as goal
-
--- the server served on so far
-abbrev pub invariant-loop-event : goal.invariant-loop-event
-invariant-loop-event g l = GoesOnServing l.initial.self.serving l.self.serving (g.W.Write.contents l.initial.out) (g.W.Write.contents l.out)

@@ -1,0 +1,182 @@
+//! Waits for what happens at the listener and on connections, and notes which of them are to take
+//! another turn.
+
+ghost use Rattle.std.specs.Prelude.{◌≡◌, Some};
+ghost use Rattle.bsonserver.specs.Serving.{settled};
+ghost use Rattle.wire_hall.specs.declared.turned.Leave.{Leave};
+
+use crate::edge_triggered::{EdgeTriggered, Turns};
+use crate::serving::settle;
+use crate::stop::Stop;
+use mio::event::Event;
+use mio::net::TcpStream;
+use mio::{Events, Registry};
+use sockets::{Acceptor, Delays, Due};
+use std::alloc::{AllocError, Global};
+use std::time::Clock;
+use wire_hall::Turned;
+
+/// The most connections that are open at once. More of them wait at the listener.
+pub const ROOM: usize = 1024;
+
+/// Which connections are to take another turn. It takes its memory before there is a listener.
+#[derive(Drop)]
+pub struct Pending {
+    /// The turn that a connection takes.
+    turns: Turns,
+    /// The connections whose replies are held.
+    delays: Delays,
+    /// The connections whose turns ended before there was nothing to do. There is room for all, so
+    /// another turn wants no memory.
+    again: Due,
+}
+
+impl Pending {
+    /// Begins before the first turn.
+    ///
+    /// # Errors
+    ///
+    /// Returns `AllocError` if memory runs out.
+    pub fn new(alloc: Global) -> Result<Pending, AllocError> {
+        let turns = Turns::new(alloc)?;
+        let again = Due::with_room(alloc, ROOM)?;
+        Ok(Pending {
+            turns,
+            delays: Delays::new(alloc),
+            again,
+        })
+    }
+
+    /// Has the connections take another turn whose replies were held for long enough.
+    fn release(&mut self, clock: &impl Clock) -> Result<(), Stop> {
+        for _ in 0..ROOM {
+            match self.delays.take_due(clock)? {
+                Some(key) => self.again.push(key)?,
+                None => break,
+            }
+        }
+        Ok(())
+    }
+}
+
+/// A listener, and which of its connections are to take another turn.
+#[derive(Drop)]
+pub struct EventLoop {
+    acceptor: Acceptor,
+    pending: Pending,
+}
+
+impl EventLoop {
+    /// Begins to wait.
+    pub fn new(acceptor: Acceptor, pending: Pending) -> EventLoop
+        ensures acceptor { result.acceptor ≡ acceptor }
+        ensures pending { result.pending ≡ pending }
+    {
+        EventLoop { acceptor, pending }
+    }
+
+    /// Returns what registers sockets, so that their events are waited for.
+    pub fn registry(&self) -> &Registry {
+        self.acceptor.registry()
+    }
+
+    /// Returns true if a connection may wait at the listener.
+    pub fn is_ready(&self) -> bool {
+        self.acceptor.is_ready()
+    }
+
+    /// Notes that a connection may wait at the listener.
+    pub fn resume(&mut self) {
+        self.acceptor.resume();
+    }
+
+    /// Accepts the connection that is to have this key, if one waits, one more is wanted and there
+    /// is room for it. If it can't be registered, it is accepted once more after a pause.
+    ///
+    /// # Errors
+    ///
+    /// Returns `AllocError` if there are more streams than are counted.
+    pub fn accept(
+        &mut self,
+        has_room: bool,
+        key: usize,
+    ) -> Result<Option<EdgeTriggered<TcpStream>>, AllocError> {
+        match self.acceptor.accept_under(has_room, key) {
+            Some(stream) => Ok(Some(self.pending.turns.edge_triggered(stream)?)),
+            None => Ok(None),
+        }
+    }
+
+    /// Counts that the system told events.
+    pub fn count(&mut self) {
+        self.pending.turns.count();
+    }
+
+    /// Begins a turn by one of the events that the system told last.
+    pub fn begin_turn(&self, event: &Event) {
+        self.pending.turns.begin(event);
+    }
+
+    /// Returns how many connections are to take another turn.
+    pub fn due(&self) -> usize {
+        self.pending.again.len()
+    }
+
+    /// Begins the turn of the next connection that is to take another one. Returns its key.
+    pub fn resume_turn(&mut self) -> Option<usize> {
+        let key = self.pending.again.pop()?;
+        self.pending.turns.resume();
+        Some(key)
+    }
+
+    /// Notes that a connection is to take another turn.
+    pub fn take_up(&mut self, key: usize) -> Result<(), Stop> {
+        Ok(self.pending.again.push(key)?)
+    }
+
+    /// Returns true if the reply of this connection is held.
+    pub fn holds(&self, key: usize) -> bool {
+        self.pending.delays.holds(key)
+    }
+
+    /// Holds the reply of a connection for so many milliseconds.
+    pub fn hold(&mut self, clock: &impl Clock, key: usize, millis: u64) -> Result<(), Stop> {
+        Ok(self.pending.delays.hold(clock, key, millis)?)
+    }
+
+    /// Goes on after a turn of a connection. Returns why the server stops, if it does.
+    pub fn after_turn(&mut self, key: usize, turned: Option<Turned>) -> Result<(), Stop>
+        ensures { (leave : Leave) → turned ≡ Some (Turned.Over leave) → result ≡ settled leave }
+    {
+        match turned {
+            Some(Turned::Again) => self.take_up(key),
+            Some(Turned::Over(leave)) => {
+                self.resume();
+                settle(leave)
+            }
+            Some(Turned::Waits) | None => Ok(()),
+        }
+    }
+
+    /// Says on standard error why connections wait, once until none does. If standard error takes no
+    /// line, they wait all the same.
+    fn tell_backlog(&mut self, rt: &impl Eprint) {
+        if let Some(reason) = self.acceptor.take_reason() {
+            let _ = eprintln!(rt; "bsonserver: {reason}");
+        }
+    }
+
+    /// Waits for events: not at all if there is more to do, and no longer than a reply is held. Then
+    /// has the connections take another turn whose replies were held for long enough.
+    pub fn wait<R: Clock + Eprint>(
+        &mut self,
+        rt: &R,
+        events: &mut Events<Global>,
+    ) -> Result<(), Stop> {
+        self.tell_backlog(rt);
+        let held = self.pending.delays.least(rt)?;
+        let has_more = !self.pending.again.is_empty();
+        self.acceptor.wait(events, has_more, held)?;
+        self.pending.release(rt)
+    }
+}
