@@ -73,6 +73,11 @@ def program_words(words):
     return words or [program_of("bsonwire")]
 
 
+def proxy_words(words):
+    """Returns these words, or those of the program that ./bsonproxy runs."""
+    return words or [program_of("bsonproxy")]
+
+
 def connect_to(port):
     """Returns a connection to this port, over which bytes go as soon as they are sent."""
     link = socket.create_connection(("127.0.0.1", port), timeout=DEADLINE)
@@ -177,7 +182,7 @@ class Proxy:
             options = ("--script", rules, *options)
         with open(self.path, "wb") as output:
             self.process = subprocess.Popen(
-                [*words, "proxy", "--until-stdin-closes", *options, "127.0.0.1:0", "{}:{}".format(*server.address)], stdin=subprocess.PIPE, stdout=output)
+                [*words, "serve", "--until-stdin-closes", *options, "127.0.0.1:0", "{}:{}".format(*server.address)], stdin=subprocess.PIPE, stdout=output)
         while not (lines := self.lines()):
             check("the proxy listens", self.process.poll() is None, self.process.returncode)
             time.sleep(0.01)

@@ -1,11 +1,11 @@
 -- What a choice reads of the matches.
-use Rattle.std.proofs.Common.{◌≡◌, ◌∙◌, ◌<◌, ◌^◌, ℕ, ap, subst, sym, Bool, true, false, true≢false, List, Option, Some, None, Result, Ok, Err, codes, arith}
-use Rattle.std.specs.Str.Parse.{ParsesUnsigned, digits_value, without_leading_plus}
-use Rattle.clap.specs.Words.{ReadsOne, Row, Text}
+use Rattle.std.proofs.Common.{◌≡◌, ◌∙◌, ap, sym, Bool, true, false, true≢false, List, codes}
+use Rattle.clap.specs.Words.{Row}
 use Rattle.command_words.proofs.Lemmas.{reads_true}
+use Rattle.command_words.specs.{HoldsFlag}
 use Rattle.bsonwire.specs.declared.choice.Reading.{Reading}
 use Rattle.bsonwire.specs.declared.choice.Reading.TheVariants.{Bytes, Hex, Salvage}
-use Rattle.bsonwire.specs.Choices.{HoldsFlag, HoldsHex, HoldsMessageForm, HoldsReading, IsCount, is_relaxed}
+use Rattle.bsonwire.specs.Choices.{HoldsHex, HoldsMessageForm, HoldsReading, is_relaxed}
 use Rattle.file_commands.specs.declared.msg.MessageForm.{MessageForm}
 use Rattle.file_commands.specs.declared.msg.MessageForm.TheVariants.{Text as in_text, Json as in_json}
 
@@ -41,20 +41,3 @@ pub salvage_read : (reading : Reading) (rows : List Row) → HoldsReading readin
 salvage_read Bytes rows held is = absurd (true≢false (ap reads_true (sym is ∙ held.1)))
 salvage_read Hex rows held is = absurd (true≢false (ap reads_true (sym is ∙ held.1)))
 salvage_read Salvage rows held is = held
-
--- ---- a number from 1 to 100
-
-module _ {E : Type 0} (G : Text → Result ℕ E → Type 0) (parses : (t : Text) (r : Result ℕ E) → G t r → ParsesUnsigned 8 10 t r) where
-  -- a count that was read is the one that stands there
-  pub read_count : (o : Option Text) (n k : ℕ) → IsCount n o → ((t : Text) → o ≡ Some t → ReadsOne G t (Some k)) → IsCount k o
-  read_count o n k count value =
-      let read = parses count.0 (Ok k) (value count.0 count.1) in
-      let same : n ≡ k = sym count.2.1 ∙ sym read.1 in
-      subst (λ (m : ℕ). IsCount m o) same count
-
-  -- a count can be read
-  pub count_reads : (o : Option Text) (n : ℕ) → IsCount n o → ((t : Text) → o ≡ Some t → ReadsOne G t None) → ⊥
-  count_reads o n count value =
-      let read = value count.0 count.1 in
-      let small : digits_value 10 (without_leading_plus count.0) < 2 ^ 8 = omega (arith, count.2.1, count.4) in
-      parses count.0 (Err read.0) read.1 (count.2.0, small)

@@ -1,26 +1,8 @@
 -- The command line of the program, as `clap` sees it.
-use Rattle.std.specs.Prelude.{[], ◌∷◌, ◌++◌, List, true, codes, fold, Some, pos}
-use Rattle.clap.specs.Words.{App, Rule, Text, new_app, new_rule, with_rule, with_subcommand}
+use Rattle.std.specs.Prelude.{[], ◌∷◌, List, true, codes, fold}
+use Rattle.clap.specs.Words.{App, Text, new_app, with_rule, with_subcommand}
 use Rattle.clap.specs.Simple.{on_top}
-use Rattle.clap.specs.declared.builder.value_parser.ValueParser.TheVariants.{Signed, Unsigned}
-use Rattle.command_words.specs.{flag_rule, number_rule, text_rule}
-
--- a required operand
-abbrev pub operand_rule : Text → Rule
-operand_rule id = record (new_rule id) { value_names = 1; required = true }
-
--- the operand N, a number from 1 to 100
-abbrev pub calls_rule : Rule
-calls_rule = record (operand_rule (codes "calls")) { parser = Some (Signed (pos 1) (pos 100)) }
-
--- the option `--share N`, a number from 1 to 1024
-abbrev pub share_rule : Rule
-share_rule = record (text_rule (codes "share")) { parser = Some (Unsigned 1 1024) }
-
--- the option `--speed P`, a number from 1
-abbrev pub speed_rule : Rule
-speed_rule =
-    record (text_rule (codes "speed")) { parser = Some (Unsigned 1 18446744073709551615) }
+use Rattle.command_words.specs.{count_rule, flag_rule, operand_rule}
 
 -- a subcommand that reads a file, with these flags
 abbrev pub file_app : Text → List Text → App
@@ -82,46 +64,7 @@ play_app = file_app (codes "play") text_flags
 
 -- the subcommand that makes N calls
 abbrev pub loop_app : App
-loop_app = with_rule (new_app (codes "loop")) calls_rule
-
--- the addresses of a proxy
-abbrev pub address_rules : List Rule
-address_rules = operand_rule (codes "listen") ∷ operand_rule (codes "upstream") ∷ []
-
--- what becomes of messages that pass
-abbrev pub show_rules : List Rule
-show_rules =
-    flag_rule (codes "text") ∷ flag_rule (codes "json") ∷ text_rule (codes "record")
-    ∷ number_rule (codes "limit") ∷ []
-
--- its other options
-abbrev pub option_rules : List Rule
-option_rules =
-    share_rule ∷ number_rule (codes "connections") ∷ flag_rule (codes "until-stdin-closes")
-    ∷ text_rule (codes "port-file") ∷ []
-
--- the faults that it makes
-abbrev pub fault_rules : List Rule
-fault_rules = text_rule (codes "script") ∷ number_rule (codes "seed") ∷ []
-
--- the subcommand that passes connections to a server and back, with these arguments
-abbrev pub proxy_with : List Rule → App
-proxy_with rules = fold (λ a rule. with_rule a rule) (new_app (codes "proxy")) rules
-
-abbrev pub proxy_rules : List Rule
-proxy_rules = address_rules ++ show_rules ++ option_rules ++ fault_rules
-
-abbrev pub proxy_app : App
-proxy_app = proxy_with proxy_rules
-
--- the subcommand that sends what a record's clients sent
-abbrev pub replay_rules : List Rule
-replay_rules =
-    operand_rule (codes "file") ∷ operand_rule (codes "address") ∷ text_rule (codes "ignore")
-    ∷ speed_rule ∷ []
-
-abbrev pub replay_app : App
-replay_app = fold (λ a rule. with_rule a rule) (new_app (codes "replay")) replay_rules
+loop_app = with_rule (new_app (codes "loop")) (count_rule (codes "calls"))
 
 -- the program without subcommands: it has a version, and requires a subcommand
 abbrev pub top_app : App
@@ -140,10 +83,6 @@ file_line = with_subcommand (with_subcommand check_line canon_app.top) msg_app.t
 abbrev pub json_line : App
 json_line = with_subcommand (with_subcommand file_line json_app.top) bson_app.top
 
--- the program with those that end by themselves, too
-abbrev pub ending_line : App
-ending_line = with_subcommand (with_subcommand json_line play_app.top) loop_app.top
-
 -- the whole command line
 abbrev pub command_line : App
-command_line = with_subcommand (with_subcommand ending_line proxy_app.top) replay_app.top
+command_line = with_subcommand (with_subcommand json_line play_app.top) loop_app.top

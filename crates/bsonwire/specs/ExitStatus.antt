@@ -8,7 +8,7 @@ use Rattle.command_run.specs.declared.run.RunEnd.{RunEnd}
 use Rattle.command_run.specs.declared.run.RunEnd.TheVariants.{Good, Fault, Unread, InOut}
 use Rattle.command_run.specs.declared.run.RunEnd.TheVariants.{OutOfMemory}
 use Rattle.bsonwire.specs.declared.choice.Choice.{Choice}
-use Rattle.bsonwire.specs.declared.choice.Choice.TheVariants.{Loop, Over, Proxy, Replay}
+use Rattle.bsonwire.specs.declared.choice.Choice.TheVariants.{Loop, Over}
 use Rattle.bsonwire.specs.Choices.{IsChosen, words_fault}
 
 -- the exit status of each end; 2 means a fault in the command line
@@ -29,14 +29,10 @@ tells_fault status = status == 1
 
 -- ---- words
 
--- the status of what was chosen: that of an end, also of a replay, and of calls, that of an end
--- without a fault; of a proxy also 2, for a script at fault, or for itself as its server
+-- the status of what was chosen: that of an end, and of calls, that of an end without a fault
 abbrev pub IsStatusFor : Choice → ℕ → Type 0
 IsStatusFor (Over command file quiet) status = (end : RunEnd) × (status ≡ exit_status end)
 IsStatusFor (Loop calls) status = (end : RunEnd) × (end ≢ Fault) × (status ≡ exit_status end)
-IsStatusFor (Proxy options) status =
-    (status ≡ 2) ⊎ ((end : RunEnd) × (end ≢ Fault) × (status ≡ exit_status end))
-IsStatusFor (Replay options) status = (end : RunEnd) × (status ≡ exit_status end)
 
 -- memory ran out, or the words have a fault of this kind
 abbrev pub MayRefuse : ErrorKind → Kinds → Type 0

@@ -1,4 +1,4 @@
 pub mod ExitStatus
 pub mod CommandLine
 pub mod Choices
-pub mod InputName
+pub mod Texts

@@ -2,35 +2,29 @@
 ghost use Rattle.std.specs.Prelude.{◌≡◌, ◌≢◌, ◌⊎◌, [], List, ℕ, IfErr, IfOk, IfSome, false};
 ghost use Rattle.std.specs.Prelude.{is_some, true};
 ghost use Rattle.std.specs.Io.KnownBytes.{IsAtEnd, Keeps};
-ghost use Rattle.std.specs.List.{list_any};
-ghost use Rattle.std.specs.Str.{chars};
-ghost use Rattle.core.specs.Char.{is_control};
 ghost use Rattle.std.specs.IoError.{error_kind, raw_os_error};
-ghost use Rattle.bsonwire.specs.Choices.{AllOf, CommandText, FirstOf, reads_first};
 ghost use Rattle.bsonwire.specs.ExitStatus.{IsStatusFor, exit_status, tells_done, tells_fault};
+ghost use Rattle.bsonwire.specs.Texts.{AllOf, CommandText, FirstOf, reads_first};
 ghost use Rattle.command_run.specs.{AppendsText, end_of_error, is_done, is_fault};
 ghost use Rattle.file_commands.specs.{AppendsOne, WritesRead};
 ghost use Rattle.loopback.specs.{AppendsUpTo, loop_text};
 
 use crate::choice::{Choice, Command, Reading};
-use crate::noted::{Because, Noted};
 use crate::progress::Progress;
 use command_run::{RunEnd, end_of};
-use command_words::{IN_OUT, MEMORY, USAGE};
+use command_words::{Because, IN_OUT, InputName, MEMORY, Noted};
 use file_commands::{
     TextStop, run_any, run_bson, run_canon, run_check, run_dump, run_json, run_msg, salvage_canon,
     salvage_check,
 };
 use loopback::run_loop;
-use proxy::{Options, ProxyFault};
-use replay::{Outcome, ReplayFault, ReplayOptions};
 use std::alloc::Global;
 use std::fs::OpenFile;
 use std::io::{ErrorKind, Read, Write};
 use std::net::Net;
 use std::rt::Files;
 use std::time::Clock;
-use std::{fmt, fs, io};
+use std::{fs, io};
 use wire_play::run_play;
 
 /// Returns the exit status of an end: 0 if all was good, 1 for a fault in the input, 3 if reading
@@ -43,54 +37,6 @@ fn status_of(end: RunEnd) -> u8
         RunEnd::Fault => 1,
         RunEnd::Unread | RunEnd::InOut => IN_OUT,
         RunEnd::OutOfMemory => MEMORY,
-    }
-}
-
-/// The name of an input, as a message has it.
-#[derive(Clone, Copy)]
-enum InputName<'a> {
-    StandardInput,
-    File(&'a str),
-    /// A file whose name is empty or has control characters. The name is put in quotes, so that
-    /// the message stays one line and names something.
-    Quoted(&'a str),
-}
-
-/// Returns true if `text` has a control character.
-fn has_control(text: &str) -> bool
-    ensures { result ≡ list_any is_control (chars text.now) }
-{
-    text.chars().any(|c| c.is_control())
-}
-
-impl InputName<'_> {
-    ghost use Rattle.bsonwire.specs.InputName.{NamesFile};
-
-    /// Returns the name of the input that the operand `file` asks for.
-    fn of(file: &str) -> InputName<'_>
-        ensures { NamesFile result file.now }
-    {
-        if file == "-" {
-            InputName::StandardInput
-        } else if file.is_empty() || has_control(file) {
-            InputName::Quoted(file)
-        } else {
-            InputName::File(file)
-        }
-    }
-}
-
-impl fmt::Display for InputName<'_> {
-    ghost use Rattle.bsonwire.specs.InputName.{name_text};
-
-    ghost output = { name_text };
-
-    fn fmt<W: fmt::Write>(&self, f: &mut fmt::Formatter<W>) -> fmt::Result {
-        match *self {
-            InputName::StandardInput => f.write_str("standard input"),
-            InputName::File(file) => f.write_str(file),
-            InputName::Quoted(file) => write!(f, "{file:?}"),
-        }
     }
 }
 
@@ -110,8 +56,6 @@ pub fn run<R: Files + Input + Print + Eprint + Clock + Net + AllocGlobal>(
             quiet,
         } => run_file(rt, command, file, shown && !quiet),
         Choice::Loop { calls } => loop_status(rt, calls, &mut Noted::new(io::writer(rt))),
-        Choice::Proxy(options) => proxy_status(rt, options),
-        Choice::Replay(options) => replay_status(rt, options),
     }
 }
 
@@ -266,124 +210,6 @@ fn tell_loop(rt: &impl Eprint, end: RunEnd, unwritten: Because) -> u8
         RunEnd::Good | RunEnd::Fault | RunEnd::Unread => Ok(()),
     };
     status_of(end)
-}
-
-/// Passes connections to a server and back, or the requests of all clients over a few of them.
-fn run_proxy<R: Files + Input + Net + Clock + AllocGlobal, W: Write>(
-    rt: &R,
-    options: Options<'_>,
-    out: &mut W,
-) -> Result<(), ProxyFault> {
-    match options.share {
-        Some(most) => shared_proxy::run(rt, rt.alloc(), options, most as usize, out),
-        None => proxy::run(rt, rt.alloc(), options, out),
-    }
-}
-
-/// Returns the exit status of a proxy that stopped early.
-fn fault_status(fault: &ProxyFault) -> u8
-    ensures { (result ≡ 2) ⊎ ((end : RunEnd) × (end ≢ RunEnd.Good) × (end ≢ RunEnd.Fault)
-        × (result ≡ exit_status end)) }
-{
-    match fault {
-        ProxyFault::Script(_) | ProxyFault::Itself => USAGE,
-        ProxyFault::ScriptFile(error)
-        | ProxyFault::Listen(error)
-        | ProxyFault::Upstream(error)
-        | ProxyFault::PortFile(error)
-        | ProxyFault::RecordFile(error)
-        | ProxyFault::Io(error) => status_of(end_of(error)),
-    }
-}
-
-/// Runs a proxy, and returns the exit status. If it stopped early, standard error says why.
-fn proxy_status<R: Files + Input + Net + Clock + Print + Eprint + AllocGlobal>(
-    rt: &R,
-    options: Options<'_>,
-) -> u8
-    ensures { (result ≡ 2)
-        ⊎ ((end : RunEnd) × (end ≢ RunEnd.Fault) × (result ≡ exit_status end)) }
-{
-    let mut writer = Noted::new(io::writer(rt));
-    let Err(fault) = run_proxy(rt, options, &mut writer) else {
-        return status_of(RunEnd::Good);
-    };
-    let _ = tell_proxy(rt, &fault, options, writer.because());
-    fault_status(&fault)
-}
-
-/// Says on standard error why a proxy stopped early: writing failed for this reason, or else by its
-/// fault.
-fn tell_proxy(
-    rt: &impl Eprint,
-    fault: &ProxyFault,
-    options: Options<'_>,
-    unwritten: Because,
-) -> io::Result<()> {
-    if unwritten.is_known() {
-        return eprintln!(rt; "bsonwire: could not write standard output{unwritten}");
-    }
-    let Options {
-        listen,
-        upstream,
-        script,
-        port_file,
-        record,
-        ..
-    } = options;
-    let file = match fault {
-        ProxyFault::Script(_) | ProxyFault::ScriptFile(_) => script,
-        ProxyFault::PortFile(_) => port_file,
-        ProxyFault::RecordFile(_) => record,
-        ProxyFault::Listen(_) | ProxyFault::Upstream(_) | ProxyFault::Itself | ProxyFault::Io(_) =>
-            { None }
-    };
-    match file {
-        Some(file) => eprintln!(rt; "bsonwire: proxy: {file:?}: {fault}"),
-        None => eprintln!(rt; "bsonwire: proxy from {listen:?} to {upstream:?}: {fault}"),
-    }
-}
-
-/// Sends what a record's clients sent to a server, and returns the exit status. If that stopped
-/// early, standard error says why.
-fn replay_status<R: Files + Input + Net + Clock + Print + Eprint + AllocGlobal>(
-    rt: &R,
-    options: ReplayOptions<'_>,
-) -> u8
-    ensures { (end : RunEnd) × (result ≡ exit_status end) }
-{
-    let mut writer = Noted::new(io::writer(rt));
-    match replay::run(rt, rt.alloc(), options, &mut writer) {
-        Ok(Outcome::Same) => status_of(RunEnd::Good),
-        Ok(Outcome::Different | Outcome::Fault) => status_of(RunEnd::Fault),
-        Err(fault) => {
-            let _ = tell_replay(rt, &fault, options, writer.because());
-            status_of(end_of(fault.error()))
-        }
-    }
-}
-
-/// Says on standard error why a replay stopped early: writing failed for this reason, or else by its
-/// fault.
-fn tell_replay(
-    rt: &impl Eprint,
-    fault: &ReplayFault,
-    options: ReplayOptions<'_>,
-    unwritten: Because,
-) -> io::Result<()> {
-    if unwritten.is_known() {
-        return eprintln!(rt; "bsonwire: could not write standard output{unwritten}");
-    }
-    let ReplayOptions { file, address, .. } = options;
-    match fault {
-        ReplayFault::Records(error) => {
-            let input = InputName::of(file);
-            eprintln!(rt; "bsonwire: could not read {input}: {error}")
-        }
-        ReplayFault::Address(_) | ReplayFault::Io(_) => {
-            eprintln!(rt; "bsonwire: replay to {address:?}: {fault}")
-        }
-    }
 }
 
 /// Says on standard error why a run stopped early, if it did: reading failed for the first of these

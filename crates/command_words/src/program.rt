@@ -1,9 +1,9 @@
 //! Names a program, and ends it before it begins.
 
 ghost use Rattle.std.specs.Prelude.{◌≡◌, ◌⊎◌, Bool, IfErr, IfOk, map, string_bytes};
-ghost use Rattle.std.specs.IoError.{error_kind};
+ghost use Rattle.std.specs.IoError.{error_kind, raw_os_error};
 ghost use Rattle.clap.specs.Words.{kind_of};
-ghost use Rattle.command_words.specs.Statuses.{unread_status, words_status};
+ghost use Rattle.command_words.specs.Statuses.{error_status, unread_status, words_status};
 
 use clap::error::ErrorKind;
 use std::alloc::{AllocError, Global};
@@ -99,6 +99,18 @@ fn status_of_words(error: &clap::Error, printed: bool) -> u8
         ErrorKind::DisplayHelp | ErrorKind::DisplayVersion if printed => 0,
         ErrorKind::DisplayHelp | ErrorKind::DisplayVersion => IN_OUT,
         _ => USAGE,
+    }
+}
+
+/// Returns the exit status of a run that stops with `error`. A refused allocation has no code of the
+/// system; if the error has one, it is the system that lacks memory, and not this program.
+pub fn status_of_error(error: &io::Error) -> u8
+    ensures { result ≡ error_status (error_kind error.now) (raw_os_error error.now) }
+{
+    if error.kind() == io::ErrorKind::OutOfMemory && error.raw_os_error().is_none() {
+        MEMORY
+    } else {
+        IN_OUT
     }
 }
 

@@ -1,7 +1,8 @@
 //! Reads what the matches of `clap` hold.
 
-ghost use Rattle.std.specs.Prelude.{◌≡◌, option_map};
+ghost use Rattle.std.specs.Prelude.{◌≡◌, Bool, Some, is_some, option_map, true, ℕ};
 ghost use Rattle.clap.specs.Words.{first_of, found_of, one_of, rows_of};
+ghost use Rattle.command_words.specs.Tables.{HoldsFlag, IsCount};
 ghost use Rattle.command_words.specs.Values.{AsksFor, AsksForMany, HasNumber, was_given};
 
 use clap::ArgMatches;
@@ -41,5 +42,38 @@ pub fn count_of(matches: &ArgMatches<'_>, name: &str) -> u64
     match number_of(matches, name) {
         Some(count) => count,
         None => u64::MAX,
+    }
+}
+
+/// Returns the operand with this id.
+pub fn operand_of<'a>(matches: &ArgMatches<'a>, id: &str) -> &'a str
+    requires { is_some (first_of id.now (rows_of (found_of matches.now))) ≡ true }
+    ensures { first_of id.now (rows_of (found_of matches.now)) ≡ Some result.now }
+{
+    match matches.get_str(id) {
+        Some(text) => text,
+        None => unreachable!(),
+    }
+}
+
+/// Returns true if the flag of this name was given, which the matches hold.
+pub fn flag_of(matches: &ArgMatches<'_>, name: &str) -> bool
+    requires { (given : Bool) × HoldsFlag name.now given (rows_of (found_of matches.now)) }
+    ensures { HoldsFlag name.now result (rows_of (found_of matches.now)) }
+{
+    match matches.get_one::<bool>(name) {
+        Some(held) => held,
+        None => unreachable!(),
+    }
+}
+
+/// Returns the operand with this id, which is a number from 1 to 100.
+pub fn small_number_of(matches: &ArgMatches<'_>, id: &str) -> u8
+    requires { (n : ℕ) × IsCount n (one_of id.now (rows_of (found_of matches.now))) }
+    ensures { IsCount result (one_of id.now (rows_of (found_of matches.now))) }
+{
+    match matches.get_one::<u8>(id) {
+        Some(number) => number,
+        None => unreachable!(),
     }
 }

@@ -5,7 +5,7 @@ use Rattle.command_run.specs.declared.run.RunEnd.TheVariants.{OutOfMemory, Unrea
 use Rattle.command_run.specs.{AppendsText, is_done, is_fault}
 use Rattle.file_commands.specs.{AppendsOne, WritesRead}
 use Rattle.bsonwire.specs.declared.choice.Command.{Command}
-use Rattle.bsonwire.specs.Choices.{AllOf, CommandText, FirstOf}
+use Rattle.bsonwire.specs.Texts.{AllOf, CommandText, FirstOf}
 use Rattle.bsonwire.proofs.StopLemmas.{done_ok, ended_so, written_whole}
 use Rattle.bsonwire.proofs.commands.run_over.Goals as goal
 

@@ -1,0 +1,3 @@
+pub mod ExitStatus
+pub mod CommandLine
+pub mod Choices

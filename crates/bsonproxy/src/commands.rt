@@ -1,0 +1,143 @@
+//! Runs what the command line asks for, and returns the exit status.
+ghost use Rattle.std.specs.Prelude.{◌≡◌, ◌⊎◌};
+ghost use Rattle.bsonproxy.specs.ExitStatus.{IsStatusFor, IsStatusOfReplay, IsStatusOfServe};
+
+use crate::choice::Choice;
+use command_words::{Because, InputName, Noted, USAGE, status_of_error};
+use proxy::{Options, ProxyFault};
+use replay::{Outcome, ReplayFault, ReplayOptions};
+use std::io;
+use std::io::Write;
+use std::net::Net;
+use std::rt::Files;
+use std::time::Clock;
+
+/// Does what the command line asks for, and returns the exit status. If it can't go on, standard
+/// error says why.
+pub fn run<R: Files + Input + Net + Clock + Print + Eprint + AllocGlobal>(
+    rt: &R,
+    choice: Choice<'_>,
+) -> u8
+    ensures { IsStatusFor choice.entry result }
+{
+    match choice {
+        Choice::Serve(options) => serve_status(rt, options),
+        Choice::Replay(options) => replay_status(rt, options),
+    }
+}
+
+/// Passes connections to a server and back, or the requests of all clients over a few of them.
+fn run_proxy<R: Files + Input + Net + Clock + AllocGlobal, W: Write>(
+    rt: &R,
+    options: Options<'_>,
+    out: &mut W,
+) -> Result<(), ProxyFault> {
+    match options.share {
+        Some(most) => shared_proxy::run(rt, rt.alloc(), options, most as usize, out),
+        None => proxy::run(rt, rt.alloc(), options, out),
+    }
+}
+
+/// Returns the exit status of a proxy that stopped early.
+fn fault_status(fault: &ProxyFault) -> u8
+    ensures { (result ≡ 2) ⊎ (result ≡ 3) ⊎ (result ≡ 4) }
+{
+    match fault {
+        ProxyFault::Script(_) | ProxyFault::Itself => USAGE,
+        ProxyFault::ScriptFile(error)
+        | ProxyFault::Listen(error)
+        | ProxyFault::Upstream(error)
+        | ProxyFault::PortFile(error)
+        | ProxyFault::RecordFile(error)
+        | ProxyFault::Io(error) => status_of_error(error),
+    }
+}
+
+/// Runs a proxy, and returns the exit status. If it stopped early, standard error says why.
+fn serve_status<R: Files + Input + Net + Clock + Print + Eprint + AllocGlobal>(
+    rt: &R,
+    options: Options<'_>,
+) -> u8
+    ensures { IsStatusOfServe result }
+{
+    let mut writer = Noted::new(io::writer(rt));
+    let Err(fault) = run_proxy(rt, options, &mut writer) else {
+        return 0;
+    };
+    let _ = tell_proxy(rt, &fault, options, writer.because());
+    fault_status(&fault)
+}
+
+/// Says on standard error why a proxy stopped early: writing failed for this reason, or else by its
+/// fault.
+fn tell_proxy(
+    rt: &impl Eprint,
+    fault: &ProxyFault,
+    options: Options<'_>,
+    unwritten: Because,
+) -> io::Result<()> {
+    if unwritten.is_known() {
+        return eprintln!(rt; "bsonproxy: could not write standard output{unwritten}");
+    }
+    let Options {
+        listen,
+        upstream,
+        script,
+        port_file,
+        record,
+        ..
+    } = options;
+    let file = match fault {
+        ProxyFault::Script(_) | ProxyFault::ScriptFile(_) => script,
+        ProxyFault::PortFile(_) => port_file,
+        ProxyFault::RecordFile(_) => record,
+        ProxyFault::Listen(_) | ProxyFault::Upstream(_) | ProxyFault::Itself | ProxyFault::Io(_) =>
+            { None }
+    };
+    match file {
+        Some(file) => eprintln!(rt; "bsonproxy: {file:?}: {fault}"),
+        None => eprintln!(rt; "bsonproxy: from {listen:?} to {upstream:?}: {fault}"),
+    }
+}
+
+/// Sends what a record's clients sent to a server, and returns the exit status. If that stopped
+/// early, standard error says why.
+fn replay_status<R: Files + Input + Net + Clock + Print + Eprint + AllocGlobal>(
+    rt: &R,
+    options: ReplayOptions<'_>,
+) -> u8
+    ensures { IsStatusOfReplay result }
+{
+    let mut writer = Noted::new(io::writer(rt));
+    match replay::run(rt, rt.alloc(), options, &mut writer) {
+        Ok(Outcome::Same) => 0,
+        Ok(Outcome::Different | Outcome::Fault) => 1,
+        Err(fault) => {
+            let _ = tell_replay(rt, &fault, options, writer.because());
+            status_of_error(fault.error())
+        }
+    }
+}
+
+/// Says on standard error why a replay stopped early: writing failed for this reason, or else by its
+/// fault.
+fn tell_replay(
+    rt: &impl Eprint,
+    fault: &ReplayFault,
+    options: ReplayOptions<'_>,
+    unwritten: Because,
+) -> io::Result<()> {
+    if unwritten.is_known() {
+        return eprintln!(rt; "bsonproxy: could not write standard output{unwritten}");
+    }
+    let ReplayOptions { file, address, .. } = options;
+    match fault {
+        ReplayFault::Records(error) => {
+            let input = InputName::of(file);
+            eprintln!(rt; "bsonproxy: could not read {input}: {error}")
+        }
+        ReplayFault::Address(_) | ReplayFault::Io(_) => {
+            eprintln!(rt; "bsonproxy: replay to {address:?}: {fault}")
+        }
+    }
+}

@@ -1,0 +1,23 @@
+# Made by scripts/tools/pages from what the program prints at --help.
+complete -c bsonproxy -f
+complete -c bsonproxy -n __fish_use_subcommand -a serve -d 'Passes connections to a server and back, and shows or records their messages'
+complete -c bsonproxy -n __fish_use_subcommand -a replay -d 'Sends what clients sent in a record to a server, and tells which answers differ'
+complete -c bsonproxy -n __fish_use_subcommand -a help -d 'Print the help of a command'
+complete -c bsonproxy -n __fish_use_subcommand -s h -l help -d 'Print help'
+complete -c bsonproxy -n __fish_use_subcommand -s V -l version -d 'Print version'
+complete -c bsonproxy -n '__fish_seen_subcommand_from serve' -l text -d 'Write the text of each message'
+complete -c bsonproxy -n '__fish_seen_subcommand_from serve' -l json -d 'Write each message as a line of canonical Extended JSON'
+complete -c bsonproxy -n '__fish_seen_subcommand_from serve' -l record -r -F -d 'Write each message to FILE, with its time, its connection and its direction'
+complete -c bsonproxy -n '__fish_seen_subcommand_from serve' -l limit -r -f -d 'With --record, end the file before it has more than N bytes'
+complete -c bsonproxy -n '__fish_seen_subcommand_from serve' -l share -r -f -d 'Pass the requests of all clients over N shared connections, 1 to 1024'
+complete -c bsonproxy -n '__fish_seen_subcommand_from serve' -l connections -r -f -d 'End after this many connections; without it the proxy goes on'
+complete -c bsonproxy -n '__fish_seen_subcommand_from serve' -l until-stdin-closes -d 'End when standard input does'
+complete -c bsonproxy -n '__fish_seen_subcommand_from serve' -l port-file -r -F -d 'Write the port and a line feed to FILE once the proxy listens'
+complete -c bsonproxy -n '__fish_seen_subcommand_from serve' -l script -r -F -d 'Do with requests and their replies what the rules of FILE say'
+complete -c bsonproxy -n '__fish_seen_subcommand_from serve' -l seed -r -f -d 'Cut each connection behind a number of bytes that is drawn from S'
+complete -c bsonproxy -n '__fish_seen_subcommand_from serve' -s h -l help -d 'Print help'
+complete -c bsonproxy -n '__fish_seen_subcommand_from replay' -l ignore -r -f -d 'Don\'t compare fields of these names, which have commas between'
+complete -c bsonproxy -n '__fish_seen_subcommand_from replay' -l speed -r -f -d 'Send at P percent of the recorded speed, and not as fast as answers come'
+complete -c bsonproxy -n '__fish_seen_subcommand_from replay' -s h -l help -d 'Print help'
+complete -c bsonproxy -n '__fish_seen_subcommand_from replay' -F
+complete -c bsonproxy -n '__fish_seen_subcommand_from help' -a 'serve replay'
