@@ -119,17 +119,16 @@ fn take_steps<W: Output>(
     ensures { OnOk result (GoesOnServing serving.old serving.new
         (W.contents out.old) (W.contents out.new)) }
 {
-    let mut turned = Some(Turned::Again);
     for _ in 0..STEPS {
         if event_loop.holds(key) {
             return Ok(());
         }
-        turned = take_step(clock, event_loop, serving, key, out)?;
-        let Some(Turned::Again) = turned else {
-            break;
-        };
+        let turned = take_step(clock, event_loop, serving, key, out)?;
+        if turned != Some(Turned::Again) {
+            return event_loop.after_turn(key, turned);
+        }
     }
-    event_loop.after_turn(key, turned)
+    event_loop.take_up(key)
 }
 
 /// Has a connection take a turn of many steps. Returns why the server stops, if it does.
@@ -260,8 +259,11 @@ fn take_turns<W: Output>(
     event_loop.count();
     if serving.has_no_rules() {
         answer_each(event_loop, serving, events, out)?;
+        finish_each(clock, event_loop, serving, events, out)?;
+        Ok(())
+    } else {
+        finish_each(clock, event_loop, serving, events, out)
     }
-    finish_each(clock, event_loop, serving, events, out)
 }
 
 /// Waits for events, and serves the connections that they are of.
@@ -279,5 +281,6 @@ pub fn serve_some<R: Clock + Eprint, W: Output>(
     event_loop.wait(rt, events)?;
     take_up_turns(rt, event_loop, serving, out)?;
     take_turns(rt, event_loop, serving, events, out)?;
-    accept_some(event_loop, serving, out)
+    accept_some(event_loop, serving, out)?;
+    Ok(())
 }

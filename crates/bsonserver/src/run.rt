@@ -119,7 +119,7 @@ fn begin_at<R: Net + Files + Input, W: Write>(
 
 /// Listens where the words say, and writes to `out` where that is, and serves connections until
 /// there were enough. Returns how many ended, and no more than the words ask for.
-fn serve_all<R: Net + Files + Input + Clock + Eprint, W: Output>(
+fn serve_lent<R: Net + Files + Input + Clock + Eprint, W: Output>(
     rt: &R,
     alloc: Global,
     choice: Choice<'_>,
@@ -133,6 +133,20 @@ fn serve_all<R: Net + Files + Input + Clock + Eprint, W: Output>(
     let mut sources = begin_at(rt, alloc, choice, out)?;
     serve_shown(rt, &mut sources, serving, choice, out)?;
     Ok(told_count(serving.ended(), choice.connections))
+}
+
+/// Begins by these scripts, without documents, and does the same.
+fn serve_all<R: Net + Files + Input + Clock + Eprint, W: Output>(
+    rt: &R,
+    alloc: Global,
+    choice: Choice<'_>,
+    scripts: Scripts,
+    out: &mut W,
+) -> Result<u64, Stop>
+    ensures { IfOk result (λ n. HasServed choice.entry scripts.script.rules.items
+        scripts.replies.rules.items n (W.contents out.old) (W.contents out.new)) }
+{
+    serve_lent(rt, alloc, choice, &mut begin(alloc, scripts), out)
 }
 
 /// Returns how many of the connections that ended are told: no more than were asked for, which is a
@@ -166,8 +180,7 @@ fn serve_at<R: Net + Files + Input + Clock + Eprint, W: Output>(
 {
     let mut count = 0;
     if choice.connections > 0 {
-        let mut serving = begin(alloc, scripts);
-        match serve_all(rt, alloc, choice, &mut serving, out) {
+        match serve_all(rt, alloc, choice, scripts, out) {
             Ok(served) => count = served,
             Err(stop) => return ServingEnd::Stopped(stop),
         }

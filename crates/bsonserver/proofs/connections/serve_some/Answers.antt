@@ -8,4 +8,4 @@ pub returns : goal.returns
 returns g c =
     let does = IsAnswered Answered in let stops = IsStopped StopsAt in
     let flushed = serves_none does stops socket_tells (λ valve. valve.gate) c.args.serving.now (g.W.Write.contents c.args.out.now) (g.W.Write.contents c.flush.new.self) c.flush.ensures.bytes in
-    serves_twice does stops socket_tells (λ valve. valve.gate) _ _ _ _ _ _ (serves_twice does stops socket_tells (λ valve. valve.gate) _ _ _ _ _ _ flushed c.in_ok-take_up_turns.ensures) c.in_ok-take_turns.ensures
+    serves_twice does stops socket_tells (λ valve. valve.gate) _ _ _ _ _ _ (serves_twice does stops socket_tells (λ valve. valve.gate) _ _ _ _ _ _ (serves_twice does stops socket_tells (λ valve. valve.gate) _ _ _ _ _ _ flushed c.in_ok-take_up_turns.ensures) c.in_ok-take_turns.ensures) c.in_ok-accept_some.ensures
