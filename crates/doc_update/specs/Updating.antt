@@ -67,15 +67,20 @@ if_allowed (Replace d) true = Err errors.Many
 if_allowed (Replace d) false = Ok tt
 if_allowed (Operate o) multi = Ok tt
 
+-- whether all documents that match are changed, and whether one is inserted where none matches
+abbrev pub flags_in : Change → Tree → Result (Bool × Bool) CommandError
+flags_in c t =
+    and_then (flag_at (codes "multi") t) (λ multi.
+    and_then (flag_at (codes "upsert") t) (λ upsert.
+    and_then (if_allowed c multi) (λ _. Ok (multi, upsert))))
+
 abbrev pub update_in : Tree → Result UpdateView CommandError
 update_in t =
     if are_statement_fields (names_of t)
     then and_then (filter_at t) (λ f.
     and_then (change_at t) (λ c.
-    and_then (flag_at (codes "multi") t) (λ multi.
-    and_then (flag_at (codes "upsert") t) (λ upsert.
-    and_then (if_allowed c multi) (λ _.
-    Ok (record { filter = f; change = c; is_multi = multi; is_upsert = upsert }))))))
+    and_then (flags_in c t) (λ flags.
+    Ok (record { filter = f; change = c; is_multi = flags.0; is_upsert = flags.1 }))))
     else Err errors.Updates
 
 abbrev pub update_of : TreeValue → Result UpdateView CommandError
@@ -140,17 +145,22 @@ updated u (v ∷ vs) r = and_then (update_one u v r) (λ s. updated u vs s)
 
 -- ---- what it inserts
 
--- a document is inserted behind others, unless no document may have its `_id`, or it is taken
+-- a document isn't inserted if no document may have its `_id`, or if it is taken
+abbrev pub insertable : TreeValue → List TreeValue → Result (Unit {0}) CommandError
+insertable v vs =
+    if is_some (id_fault (id_in v)) then Err errors.InvalidId else
+    if is_taken (id_in v) vs then Err errors.Duplicate else Ok tt
+
+-- a document is inserted behind others
 abbrev pub inserted : TreeValue → List TreeValue → Result OutcomeView CommandError
 inserted v vs =
-    if is_some (id_fault (id_in v)) then Err errors.InvalidId else
-    if is_taken (id_in v) vs then Err errors.Duplicate
-    else Ok (record {
+    and_then (insertable v vs) (λ _.
+    Ok (record {
       documents = vs ++ v ∷ [];
       matched = 1;
       modified = 0;
       inserted = id_in v;
-    })
+    }))
 
 -- what a statement makes of the fields in its filter is inserted, with an `_id`
 abbrev pub inserted_by : UpdateView → List TreeValue → Result OutcomeView CommandError
@@ -164,10 +174,13 @@ carried u vs =
     and_then (updated u vs nothing_updated) (λ r.
     if u.is_upsert && (r.matched == 0) then inserted_by u vs else Ok r)
 
+-- what a statement makes of documents that its filter can be compared with
+abbrev pub applied : UpdateView → List TreeValue → Result OutcomeView CommandError
+applied u vs = and_then (compared u.filter vs) (λ all. carried u all)
+
 -- what a statement makes of documents, or its error
 abbrev pub updated_by : TreeValue → List TreeValue → Result OutcomeView CommandError
-updated_by v vs =
-    and_then (update_of v) (λ u. and_then (compared u.filter vs) (λ all. carried u all))
+updated_by v vs = and_then (update_of v) (λ u. applied u vs)
 
 -- ---- all statements
 

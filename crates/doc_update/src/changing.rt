@@ -1,6 +1,6 @@
 //! Makes of a document what an update asks for.
 
-ghost use Rattle.std.specs.Prelude.{◌≡◌, IfErr, IfOk, Ok, codes};
+ghost use Rattle.std.specs.Prelude.{◌≡◌, IfErr, IfOk, Ok, OnOk, codes};
 ghost use Rattle.bson_doc.specs.{value_of};
 ghost use Rattle.bson_doc.specs.Document.{value_named};
 ghost use Rattle.doc_query.specs.{IsFailure};
@@ -15,15 +15,23 @@ use bson_doc::{Bson, Document};
 use doc_query::{CommandError, Failure, is_same, set};
 use std::alloc::{AllocError, Global};
 
+/// Makes of a document what operators make of it.
+fn operate(alloc: Global, operators: &Operators, document: &mut Document) -> Result<(), Failure>
+    ensures ok { OnOk result (operated operators.now document.old ≡ Ok document.new) }
+    ensures refused { IfErr result (λ e. IsFailure (operated operators.now document.old) e) }
+{
+    edit_each(alloc, Edit::Set, &operators.set, document)?;
+    remove_each(alloc, &operators.unset, document)?;
+    edit_each(alloc, Edit::Increment, &operators.increments, document)
+}
+
 /// Returns what operators make of a document.
 fn operated(alloc: Global, operators: &Operators, document: &Document) -> Result<Document, Failure>
     ensures ok { IfOk result (λ d. operated operators.now document.now ≡ Ok d) }
     ensures refused { IfErr result (λ e. IsFailure (operated operators.now document.now) e) }
 {
     let mut changed = document.try_clone()?;
-    edit_each(alloc, Edit::Set, &operators.set, &mut changed)?;
-    remove_each(alloc, &operators.unset, &mut changed)?;
-    edit_each(alloc, Edit::Increment, &operators.increments, &mut changed)?;
+    operate(alloc, operators, &mut changed)?;
     Ok(changed)
 }
 

@@ -1,6 +1,7 @@
 //! Finds and sets the elements of arrays that the steps of an update name.
 
-ghost use Rattle.std.specs.Prelude.{◌≡◌, IfOk, map};
+ghost use Rattle.std.specs.Prelude.{◌≡◌, ◌<◌, IfOk, OnOk, length, map};
+ghost use Rattle.bson_raw.specs.{TreeValue};
 ghost use Rattle.bson_doc.specs.{value_of};
 ghost use Rattle.doc_update.specs.Elements.{index_in, index_of, is_near, put_at};
 
@@ -52,6 +53,30 @@ pub fn index_in(step: &str, elements: &[Bson]) -> Result<usize, CommandError>
     Ok(index)
 }
 
+/// Appends nulls to values until one stands at an index.
+fn push_nulls(index: usize, values: &mut Vec<Bson>) -> Result<(), AllocError>
+    ensures long { OnOk result (index < length values.new.items) }
+    ensures same { (v : TreeValue) → OnOk result (put_at index v (map value_of values.new.items)
+        ≡ put_at index v (map value_of values.old.items)) }
+{
+    let end = plus(index, 1)?;
+    for count in values.len()..end {
+        values.push(Bson::Null)?;
+    }
+    Ok(())
+}
+
+/// Returns copies of values, with null behind them until one stands at an index.
+fn reaching(alloc: Global, index: usize, elements: &[Bson]) -> Result<Vec<Bson>, AllocError>
+    ensures long { IfOk result (λ vs. index < length vs.items) }
+    ensures same { (v : TreeValue) → IfOk result (λ vs. put_at index v (map value_of vs.items)
+        ≡ put_at index v (map value_of elements.now)) }
+{
+    let mut values = copies(alloc, elements)?;
+    push_nulls(index, &mut values)?;
+    Ok(values)
+}
+
 /// Returns copies of values, with this one at an index, and with null where there was none before it.
 ///
 /// # Errors
@@ -66,11 +91,7 @@ pub fn put_at(
     ensures { IfOk result (λ vs. map value_of vs.items
         ≡ put_at index (value_of value) (map value_of elements.now)) }
 {
-    let end = plus(index, 1)?;
-    let mut values = copies(alloc, elements)?;
-    for count in elements.len()..end {
-        values.push(Bson::Null)?;
-    }
+    let mut values = reaching(alloc, index, elements)?;
     values[index] = value;
     Ok(values)
 }

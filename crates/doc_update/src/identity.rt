@@ -3,7 +3,7 @@
 ghost use Rattle.std.specs.Prelude.{◌≡◌, ◌∷◌, [], ◌||◌, IfOk, OnOk, Some, codes, drop, map};
 ghost use Rattle.std.specs.Prelude.{option_map};
 ghost use Rattle.bson_doc.specs.{value_of};
-ghost use Rattle.bson_doc.specs.Document.{value_named};
+ghost use Rattle.bson_doc.specs.Document.{put, value_named};
 ghost use Rattle.doc_update.specs.Identity.{free_from, free_number, id_fault, id_in, identified};
 ghost use Rattle.doc_update.specs.Identity.{is_same_id, is_taken, made_id, own_or_made, put_each};
 ghost use Rattle.doc_update.specs.Identity.{with_id};
@@ -134,6 +134,20 @@ fn own_or_made(document: &Document, held: &[Bson], added: &[Bson]) -> Result<Bso
     }
 }
 
+/// Sets the `_id` of a document, and then each of these fields to a copy of its value, in order.
+fn put_identified(
+    alloc: Global,
+    id: Bson,
+    fields: &Document,
+    document: &mut Document,
+) -> Result<(), AllocError>
+    ensures { OnOk result
+        (document.new ≡ put_each fields.now (put (codes "_id") (value_of id) document.old)) }
+{
+    set(alloc, document, "_id", id)?;
+    put_each(alloc, fields, document)
+}
+
 /// Returns a copy of a document whose first field is its `_id`, or one that is made beside these
 /// documents and those where it has none.
 ///
@@ -151,8 +165,7 @@ pub fn with_id(
 {
     let id = own_or_made(document, held, added)?;
     let mut identified = Document::new(alloc);
-    set(alloc, &mut identified, "_id", id)?;
-    put_each(alloc, document, &mut identified)?;
+    put_identified(alloc, id, document, &mut identified)?;
     Ok(identified)
 }
 

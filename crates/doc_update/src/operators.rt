@@ -1,11 +1,12 @@
 //! Reads what an update asks for: a document in the place of another one, or operators.
 
-ghost use Rattle.std.specs.Prelude.{◌≡◌, IfErr, IfOk, is_some};
+ghost use Rattle.std.specs.Prelude.{◌≡◌, IfErr, IfOk, Ok, OnOk, false, is_some};
 ghost use Rattle.bson_doc.specs.Document.{value_named};
 ghost use Rattle.doc_query.specs.{IsFailure};
 ghost use Rattle.doc_update.specs.Operators.{are_modifiers, are_numbers, change_in, has_conflict};
 ghost use Rattle.doc_update.specs.Operators.{increments_in, is_modifier, names_operator, operand};
 ghost use Rattle.doc_update.specs.Operators.{operators_in, paths_in, replacement_in};
+ghost use Rattle.doc_update.specs.Operators.{unless_conflict};
 
 use crate::increments::number_of;
 use crate::paths::{overlap_within, paths_fault, push_paths};
@@ -14,7 +15,7 @@ use doc_query::{CommandError, Failure, begins_with_operator, is_operator};
 use std::alloc::{AllocError, Global};
 
 /// The paths that the operators of an update name, each with its operand.
-#[derive(Debug, Drop)]
+#[derive(Drop)]
 pub struct Operators {
     /// Those of `$set`.
     pub set: Document,
@@ -25,7 +26,7 @@ pub struct Operators {
 }
 
 /// What an update makes of a document.
-#[derive(Debug, Drop)]
+#[derive(Drop)]
 pub enum Change {
     /// Puts this document in its place, except for the `_id`.
     Replace(Document),
@@ -94,6 +95,26 @@ fn has_conflict(alloc: Global, operators: &Operators) -> Result<bool, AllocError
     overlap_within(paths)
 }
 
+/// Returns an error if two paths overlap.
+fn check_conflict(alloc: Global, operators: &Operators) -> Result<(), Failure>
+    ensures ok { OnOk result (has_conflict operators.now ≡ false) }
+    ensures refused { IfErr result (λ e. IsFailure (unless_conflict operators.now) e) }
+{
+    if has_conflict(alloc, operators)? {
+        return Err(Failure::Refused(CommandError::Conflict));
+    }
+    Ok(())
+}
+
+/// Returns the operators, unless two paths overlap.
+fn unless_conflict(alloc: Global, operators: Operators) -> Result<Operators, Failure>
+    ensures ok { IfOk result (λ o. unless_conflict operators ≡ Ok o) }
+    ensures refused { IfErr result (λ e. IsFailure (unless_conflict operators) e) }
+{
+    check_conflict(alloc, &operators)?;
+    Ok(operators)
+}
+
 /// Returns the paths that an operator of an update names. There are none if it isn't there.
 #[tactic(auto, using(crate::proofs::Owning::pairs_of_tree))]
 fn operand(alloc: Global, update: &Document, operator: &str) -> Result<Document, Failure>
@@ -142,15 +163,14 @@ fn operators_in(alloc: Global, update: &Document) -> Result<Operators, Failure>
     let set = operand(alloc, update, "$set")?;
     let unset = operand(alloc, update, "$unset")?;
     let increments = increments_in(alloc, update)?;
-    let operators = Operators {
-        set,
-        unset,
-        increments,
-    };
-    if has_conflict(alloc, &operators)? {
-        return Err(Failure::Refused(CommandError::Conflict));
-    }
-    Ok(operators)
+    unless_conflict(
+        alloc,
+        Operators {
+            set,
+            unset,
+            increments,
+        },
+    )
 }
 
 /// Returns the document that an update puts in the place of another one.

@@ -7,9 +7,11 @@ ghost use Rattle.bson_raw.specs.{names_of};
 ghost use Rattle.bson_doc.specs.{coded_value, same, tree_of, value_of};
 ghost use Rattle.doc_query.specs.{IsFailure, inner};
 ghost use Rattle.doc_update.specs.Identity.{id_in};
-ghost use Rattle.doc_update.specs.Updating.{after_updates, are_statement_fields, carried};
-ghost use Rattle.doc_update.specs.Updating.{change_at, changed_value, flag_at, if_allowed};
-ghost use Rattle.doc_update.specs.Updating.{inserted, inserted_by, is_statement_field};
+ghost use Rattle.doc_update.specs.Updating.{after_updates, applied, are_statement_fields};
+ghost use Rattle.doc_update.specs.Updating.{carried};
+ghost use Rattle.doc_update.specs.Updating.{change_at, changed_value, flag_at, flags_in};
+ghost use Rattle.doc_update.specs.Updating.{if_allowed};
+ghost use Rattle.doc_update.specs.Updating.{insertable, inserted, inserted_by, is_statement_field};
 ghost use Rattle.doc_update.specs.Updating.{nothing_updated, outcome_view, recorded, refused};
 ghost use Rattle.doc_update.specs.Updating.{update_by, update_in, update_of, update_one};
 ghost use Rattle.doc_update.specs.Updating.{update_view, updated, updated_by, updates_view};
@@ -30,7 +32,7 @@ use doc_query::{
 use std::alloc::{AllocError, Global};
 
 /// What a statement of update asks for.
-#[derive(Debug, Drop)]
+#[derive(Drop)]
 struct Update<'a> {
     /// The filter that the documents match.
     filter: &'a Document,
@@ -43,7 +45,7 @@ struct Update<'a> {
 }
 
 /// What a statement made of documents so far.
-#[derive(Debug, Drop)]
+#[derive(Drop)]
 struct Outcome {
     documents: Vec<Bson>,
     /// How many of them matched.
@@ -55,7 +57,7 @@ struct Outcome {
 }
 
 /// What the statements of a command made of the documents of a namespace so far.
-#[derive(Debug, Drop)]
+#[derive(Drop)]
 pub struct Updates {
     /// The documents.
     pub documents: Vec<Bson>,
@@ -132,6 +134,17 @@ fn if_allowed(change: &Change, is_multi: bool) -> Result<(), CommandError>
     }
 }
 
+/// Returns the truth values in the fields `multi` and `upsert` of a statement that asks for this
+/// change.
+fn flags_in(statement: &Document, change: &Change) -> Result<(bool, bool), CommandError>
+    ensures { result ≡ flags_in change.now (tree_of statement.now) }
+{
+    let is_multi = flag_at(statement, "multi")?;
+    let is_upsert = flag_at(statement, "upsert")?;
+    if_allowed(change, is_multi)?;
+    Ok((is_multi, is_upsert))
+}
+
 /// Reads what a statement asks for.
 fn update_in(alloc: Global, statement: &Document) -> Result<Update<'_>, Failure>
     ensures ok { IfOk result (λ u. update_in (tree_of statement.now) ≡ Ok (update_view u)) }
@@ -142,9 +155,7 @@ fn update_in(alloc: Global, statement: &Document) -> Result<Update<'_>, Failure>
     }
     let filter = filter_at(statement)?;
     let change = change_at(alloc, statement)?;
-    let is_multi = flag_at(statement, "multi")?;
-    let is_upsert = flag_at(statement, "upsert")?;
-    if_allowed(&change, is_multi)?;
+    let (is_multi, is_upsert) = flags_in(statement, &change)?;
     Ok(Update {
         filter,
         change,
@@ -198,11 +209,10 @@ fn push_changed(old: &Bson, new: Bson, outcome: &mut Outcome) -> Result<(), Allo
     ensures { OnOk result (outcome_view outcome.new
         ≡ with_changed (value_of old.now) (value_of new) (outcome_view outcome.old)) }
 {
-    let matched = plus(outcome.matched, 1)?;
-    let modified = plus(outcome.modified, count_other(old, &new))?;
+    let others = count_other(old, &new);
     outcome.documents.push(new)?;
-    outcome.matched = matched;
-    outcome.modified = modified;
+    outcome.matched = plus(outcome.matched, 1)?;
+    outcome.modified = plus(outcome.modified, others)?;
     Ok(())
 }
 
@@ -285,6 +295,19 @@ fn with_last(alloc: Global, documents: &[Bson], last: Bson) -> Result<Vec<Bson>,
     Ok(copies)
 }
 
+/// Returns an error if a document isn't inserted behind others.
+fn insertable(document: &Bson, documents: &[Bson]) -> Result<(), CommandError>
+    ensures { result ≡ insertable (value_of document.now) (map value_of documents.now) }
+{
+    if id_fault(id_in(document)).is_some() {
+        return Err(CommandError::InvalidId);
+    }
+    if is_taken(id_in(document), documents) {
+        return Err(CommandError::Duplicate);
+    }
+    Ok(())
+}
+
 /// Inserts a document behind others.
 ///
 /// # Errors
@@ -296,12 +319,7 @@ fn inserted(alloc: Global, document: Bson, documents: &[Bson]) -> Result<Outcome
     ensures refused { IfErr result (λ e. IsFailure
         (inserted (value_of document) (map value_of documents.now)) e) }
 {
-    if id_fault(id_in(&document)).is_some() {
-        return Err(Failure::Refused(CommandError::InvalidId));
-    }
-    if is_taken(id_in(&document), documents) {
-        return Err(Failure::Refused(CommandError::Duplicate));
-    }
+    insertable(&document, documents)?;
     let id = copied_id(&document)?;
     let documents = with_last(alloc, documents, document)?;
     Ok(Outcome {
@@ -340,6 +358,17 @@ fn carried(alloc: Global, update: &Update<'_>, documents: &[Bson]) -> Result<Out
     Ok(outcome)
 }
 
+/// Returns what a statement makes of documents that its filter can be compared with.
+fn applied(alloc: Global, update: &Update<'_>, documents: &[Bson]) -> Result<Outcome, Failure>
+    ensures ok { IfOk result (λ r.
+        applied (update_view update.now) (map value_of documents.now) ≡ Ok (outcome_view r)) }
+    ensures refused { IfErr result (λ e. IsFailure
+        (applied (update_view update.now) (map value_of documents.now)) e) }
+{
+    compared(update.filter, documents)?;
+    carried(alloc, update, documents)
+}
+
 /// Returns what a value makes of documents, which must be a statement.
 fn updated_by(alloc: Global, statement: &Bson, documents: &[Bson]) -> Result<Outcome, Failure>
     ensures ok { IfOk result (λ r.
@@ -348,11 +377,26 @@ fn updated_by(alloc: Global, statement: &Bson, documents: &[Bson]) -> Result<Out
         (updated_by (value_of statement.now) (map value_of documents.now)) e) }
 {
     let update = update_of(alloc, statement)?;
-    compared(update.filter, documents)?;
-    carried(alloc, &update, documents)
+    applied(alloc, &update, documents)
 }
 
 // ---- all statements
+
+/// Sets the fields of what is told of the statement at `index`, which inserted a document with this
+/// `_id`.
+fn set_upserted(
+    alloc: Global,
+    index: usize,
+    id: Bson,
+    pair: &mut Document,
+) -> Result<(), AllocError>
+    requires index { index < 2 ^ 63 }
+    requires none { pair.old ≡ [] }
+    ensures { OnOk result (inner pair.new ≡ upserted_pair index (value_of id)) }
+{
+    set(alloc, pair, "index", count_value(index))?;
+    set(alloc, pair, "_id", id)
+}
 
 /// Makes what is told of the statement at `index`, which inserted a document with this `_id`.
 fn upserted_pair(alloc: Global, index: usize, id: Bson) -> Result<Document, AllocError>
@@ -360,8 +404,7 @@ fn upserted_pair(alloc: Global, index: usize, id: Bson) -> Result<Document, Allo
     ensures { IfOk result (λ d. inner d ≡ upserted_pair index (value_of id)) }
 {
     let mut pair = Document::new(alloc);
-    set(alloc, &mut pair, "index", count_value(index))?;
-    set(alloc, &mut pair, "_id", id)?;
+    set_upserted(alloc, index, id, &mut pair)?;
     Ok(pair)
 }
 
@@ -397,12 +440,16 @@ fn record(
     ensures { OnOk result (updates_view updates.new
         ≡ recorded index (outcome_view outcome) (updates_view updates.old)) }
 {
-    push_upserted(alloc, index, outcome.inserted, &mut updates.upserted)?;
-    let matched = plus(updates.matched, outcome.matched)?;
-    let modified = plus(updates.modified, outcome.modified)?;
-    updates.documents = outcome.documents;
-    updates.matched = matched;
-    updates.modified = modified;
+    let Outcome {
+        documents,
+        matched,
+        modified,
+        inserted,
+    } = outcome;
+    updates.documents = documents;
+    push_upserted(alloc, index, inserted, &mut updates.upserted)?;
+    updates.matched = plus(updates.matched, matched)?;
+    updates.modified = plus(updates.modified, modified)?;
     Ok(())
 }
 
