@@ -1,17 +1,17 @@
 -- What `clap` finds no fault in names a command of the table, and holds what its rows say.
-use Rattle.std.proofs.Common.{◌≡◌, ◌∙◌, refl, ap, sym, subst, Bool, true, false, not, ◌&&◌, ◌||◌, List, [], ◌∷◌, ◌++◌, map, Option, Some, None, is_some, option_map, codes, true≢false, inl, inr}
-use Rattle.std.specs.Prelude.{⊤, IfSome, find}
+use Rattle.std.proofs.Common.{◌≡◌, ◌∙◌, refl, ap, sym, Bool, true, false, not, ◌&&◌, ◌||◌, List, [], ◌∷◌, ◌++◌, map, Option, Some, None, is_some, option_map, codes, true≢false, inl, inr}
+use Rattle.std.specs.Prelude.{IfSome, find}
 use Rattle.std.specs.Option.{option_map_or}
 use Rattle.std.specs.List.{list_all, list_any}
 use Rattle.std.specs.Str.{bytes_eq}
 use Rattle.std.proofs.lemmas.Slice.Eq.{bytes_eq-Decides}
 use Rattle.clap.specs.Facts.{explicit_source}
-use Rattle.clap.specs.Kinds.{check_kinds, or_else}
+use Rattle.clap.specs.Kinds.{check_kinds}
 use Rattle.clap.specs.Faults.{check_fault, defaults_fault, entered_fault, fault_of, is_simple_and_free, level_fault, settle_fault, walk_fault}
 use Rattle.clap.specs.Simple.{App, Shape, argument_words, built, built_leaf, entered, help_shape, inherited, is_simple, label_of, names_of, rows_at, subcommand_of}
 use Rattle.clap.specs.Takes.{is_given}
 use Rattle.clap.specs.Walk.{Row as Found, Text, answers_to, finished, nothing_held, settled, walk, walk_from}
-use Rattle.command_words.specs.Tables.{IsMet, IsOfForm, are_apart, form_shape, has_no_form, line_with}
+use Rattle.command_words.specs.Tables.{IsMet, are_apart, form_shape, has_no_form, line_with}
 use Rattle.command_words.specs.declared.table.Form.{Form}
 use Rattle.command_words.proofs.FormLemmas.{IsUnfaulted, above, leaf_satisfies}
 use Rattle.command_words.proofs.FoundRows.{Each, find_holds, no_kind, or_nil}

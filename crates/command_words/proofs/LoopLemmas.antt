@@ -46,6 +46,6 @@ pub form_added : (name : Text) (forms : List Form) (i : ℕ) (d : Form) (old sub
     → IsMade old (line_with name (take i forms)) → i < length forms → IsMade new (line_with name (take (i + 1) forms))
 form_added name forms i d old sub new adds part made lt = (
   adds.shape part.1 ∙ ap (λ (a : App). with_subcommand a (app_of sub).top) made.0
-  ∙ ap (λ (a : App). with_subcommand (line_with name (take i forms)) a.top) part.0 ∙ line_step name forms i d lt,
+      ∙ ap (λ (a : App). with_subcommand (line_with name (take i forms)) a.top) part.0 ∙ line_step name forms i d lt,
   adds.globals ∙ ap (λ (b : Bool). b || (out-Command sub).has_globals) made.1 ∙ part.1,
 )
