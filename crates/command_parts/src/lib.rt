@@ -12,13 +12,13 @@
 mod answering;
 mod answers;
 mod brought;
-mod build_info;
-mod hello;
+mod build_info_answer;
+mod hello_answer;
 mod names;
 
 pub use answering::put_answer;
 pub use answers::{error_answer, ok_alone, refusal_answer, set_ok, set_text};
 pub use brought::{brought_documents, push_sequence};
-pub use build_info::build_info;
-pub use hello::hello;
+pub use build_info_answer::build_info;
+pub use hello_answer::hello;
 pub use names::name_of;
