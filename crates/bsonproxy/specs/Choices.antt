@@ -7,6 +7,8 @@ use Rattle.clap.specs.Words.{Kinds, Row, Text, fault_of, first_of, one_of, subco
 use Rattle.clap.specs.declared.error.kind.ErrorKind.{ErrorKind}
 use Rattle.clap.specs.declared.error.kind.ErrorKind.TheVariants as kind
 use Rattle.command_words.specs.{AsksFor, AsksForMany, HasNumber, was_given}
+use Rattle.command_words.specs.Tables.{IsOfForm}
+use Rattle.command_words.specs.declared.table.Form.{Form}
 use Rattle.proxy.specs.declared.options.Options.{Options}
 use Rattle.proxy.specs.declared.options.Show.{Show}
 use Rattle.proxy.specs.declared.options.Show.TheVariants.{Nothing, Text as as_text, Json as as_json}
@@ -128,3 +130,8 @@ NamesChoice (Some met) = NamesSubcommand met.0 met.1
 -- there is a subcommand, and its matches make a choice unless its flags don't go together
 abbrev pub MayChoose : Option (Text × List Row) → Type 0
 MayChoose met = flags_fault met ≡ [] → NamesChoice met
+
+-- what the matches of each of these commands hold makes a choice unless its flags don't go together
+abbrev pub MakeChoices : List Form → Type 0
+MakeChoices forms =
+    (name : Text) (rows : List Row) → IsOfForm forms name rows → MayChoose (Some (name, rows))

@@ -7,7 +7,7 @@ ghost use Rattle.bsonproxy.specs.Choices.{IsChosen, IsMetSubcommand, IsSubcomman
 ghost use Rattle.bsonproxy.specs.Choices.{NamesChoice, flags_fault, kinds_of_clash};
 ghost use Rattle.bsonproxy.specs.Choices.{lacks_record, shown_by, shows_twice, words_fault};
 
-use crate::command_line::{Clash, TABLE, error_of};
+use crate::command_line::{Clash, error_of, table};
 use clap::{ArgMatches, Error};
 use command_words::{count_of, is_given, number_of, operand_of, parse, text_of};
 use proxy::{Options, Show};
@@ -149,6 +149,6 @@ pub fn choose<'a>(alloc: Global, words: &'a [&'a str]) -> Result<Choice<'a>, Err
     ensures chosen { IfOk result (λ c. IsChosen c (map (λ w. w.now) words.now)) }
     ensures kinds { FailsBy (words_fault (map (λ w. w.now) words.now)) result }
 {
-    let matches = parse(alloc, &TABLE, words)?;
+    let matches = parse(alloc, &table(), words)?;
     chosen(alloc, &matches)
 }

@@ -2,7 +2,9 @@
 
 ghost use Rattle.std.specs.Prelude.{◌≡◌, IfOk};
 ghost use Rattle.clap.specs.Words.{kind_of};
-ghost use Rattle.bsonproxy.specs.Choices.{kind_of_clash};
+ghost use Rattle.command_words.specs.Tables.{IsTable, line_app};
+ghost use Rattle.bsonproxy.specs.Choices.{MakeChoices, kind_of_clash};
+ghost use Rattle.bsonproxy.specs.CommandLine.{command_line};
 
 use clap::Error;
 use clap::error::ErrorKind;
@@ -180,13 +182,19 @@ const REPLAY: Form<'static> = Form {
     rows: &[FILE, ADDRESS, IGNORE, SPEED],
 };
 
-/// The whole command line.
-pub const TABLE: Table<'static> = Table {
-    name: "bsonproxy",
-    about: "Passes MongoDB wire messages on, shows, records and replays them",
-    after_help: AFTER_HELP,
-    forms: &[SERVE, REPLAY],
-};
+/// Returns the whole command line.
+pub fn table() -> Table<'static>
+    ensures table { IsTable result }
+    ensures line { line_app result ≡ command_line }
+    ensures choices { MakeChoices result.forms.now }
+{
+    Table {
+        name: "bsonproxy",
+        about: "Passes MongoDB wire messages on, shows, records and replays them",
+        after_help: AFTER_HELP,
+        forms: &[SERVE, REPLAY],
+    }
+}
 
 /// Why the words of `serve` that `clap` accepts are at fault.
 #[derive(Clone, Copy)]

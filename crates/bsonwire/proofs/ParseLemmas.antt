@@ -1,13 +1,12 @@
 -- What a parse holds names a choice, unless flags don't go together.
-use Rattle.std.proofs.Common.{◌≡◌, ◌∙◌, refl, ap, sym, subst, Bool, true, false, not, ◌&&◌, List, [], ◌∷◌, Option, Some, None, codes, true≢false, inl, inr}
+use Rattle.std.proofs.Common.{◌≡◌, ◌⊎◌, ◌∙◌, refl, ap, sym, subst, Bool, true, false, not, ◌&&◌, List, [], ◌∷◌, Option, Some, None, codes, true≢false, inl, inr}
 use Rattle.std.specs.Prelude.{⊤, if◌then◌else◌}
 use Rattle.std.specs.Option.{option_map_or}
 use Rattle.std.specs.Str.{bytes_eq}
 use Rattle.clap.specs.Words.{Kinds, Row, Text}
 use Rattle.clap.specs.declared.error.kind.ErrorKind.{ErrorKind}
 use Rattle.command_words.specs.{HoldsFlag, IsMet, was_given}
-use Rattle.command_words.specs.Tables.{IsOfForm}
-use Rattle.bsonwire.specs.declared.command_line.TheConstants.{TABLE}
+use Rattle.command_words.specs.declared.table.Form.{Form}
 use Rattle.bsonwire.specs.declared.choice.Command.{Command}
 use Rattle.bsonwire.specs.declared.choice.Command.TheVariants.{Any, Dump, Check, Canon, Json, Bson, Msg, Play}
 use Rattle.bson_json.specs.declared.mode.Mode.{Mode}
@@ -18,7 +17,7 @@ use Rattle.file_commands.specs.declared.msg.MessageForm.{MessageForm}
 use Rattle.file_commands.specs.declared.msg.MessageForm.TheVariants.{Text as in_text, Json as in_json}
 use Rattle.bsonwire.specs.declared.choice.Reading.{Reading}
 use Rattle.bsonwire.specs.declared.choice.Reading.TheVariants.{Bytes, Hex, Salvage}
-use Rattle.bsonwire.specs.Choices.{HasCalls, HasFile, HasQuiet, HoldsHex, HoldsMessageForm, HoldsReading, IsCommand, MayChoose, NamesSubcommand, flags_fault, is_array, is_relaxed}
+use Rattle.bsonwire.specs.Choices.{HasCalls, HasFile, HasQuiet, HoldsHex, HoldsMessageForm, HoldsReading, IsCommand, MakeChoices, MayChoose, NamesSubcommand, flags_fault, is_array, is_relaxed}
 
 -- whether a flag that is held was given
 read : Option Text → Bool
@@ -73,6 +72,7 @@ unfolding read
 text_form in_text rows held is = held.1
 text_form (in_json mode) rows held is = absurd (true≢false (ap read (sym held.0 ∙ is)))
 
+-- the flags of `msg` make a command
 msg_by : (hex any json relaxed : Bool) (rows : List Row) → HoldsHex hex rows → HoldsFlag (codes "any") any rows → HoldsFlag (codes "json") json rows → HoldsFlag (codes "relaxed") relaxed rows
     → (was_given (codes "relaxed") rows && not (was_given (codes "json") rows)) ≡ false → (was_given (codes "any") rows && was_given (codes "json") rows) ≡ false
     → (command : Command) × IsCommand command (codes "msg") rows
@@ -91,20 +91,9 @@ is_some_kind [] = false
 is_some_kind (k ∷ ks) = true
 
 unless : (b : Bool) (k : ErrorKind) (rest : Kinds) → (if b then k ∷ [] else rest) ≡ [] → (b ≡ false) × (rest ≡ [])
+unfolding is_some_kind
 unless false k rest e = (refl, e)
 unless true k rest e = absurd (true≢false (ap is_some_kind e))
-
--- the flags of `msg` make a command
-msg_by : (hex any json relaxed : Bool) (rows : List Row) → HoldsHex hex rows → HoldsFlag (codes "any") any rows → HoldsFlag (codes "json") json rows → HoldsFlag (codes "relaxed") relaxed rows
-    → (was_given (codes "relaxed") rows && not (was_given (codes "json") rows)) ≡ false → (was_given (codes "any") rows && was_given (codes "json") rows) ≡ false
-    → (command : Command) × IsCommand command (codes "msg") rows
-msg_by hex false json relaxed rows h a j r whole apart =
-    let form = form_by json relaxed rows j r whole in
-    (Msg hex form.0, (refl, h, form.1, a))
-msg_by hex true json relaxed rows h a j r whole apart =
-    let form = form_by json relaxed rows j r whole in
-    let text = json_apart json rows j a apart in
-    (Any hex, (refl, h, text, text_form form.0 rows form.1 text, a))
 
 -- the flags of `json` make a command
 json_by : (hex relaxed array : Bool) (rows : List Row) → HoldsHex hex rows → HoldsFlag (codes "relaxed") relaxed rows → HoldsFlag (codes "array") array rows
@@ -129,42 +118,67 @@ HasHex = HasFlag (codes "hex")
 abbrev Chooses : Text → List Row → Type 0
 Chooses name rows = flags_fault (Some (name, rows)) ≡ [] → NamesSubcommand name rows
 
-dump_names : (rows : List Row) → HasFile rows × HasQuiet rows × HasHex rows × HasFlag (codes "offsets") rows × ⊤ → Chooses (codes "dump") rows
-dump_names rows (file, quiet, hex, offsets, end) none = inl ((Dump hex.0 offsets.0, (refl, hex.1, offsets.1)), file, quiet)
+-- what the rows of each subcommand say
+abbrev pub HoldsDump : List Row → Type 0
+HoldsDump rows = HasFile rows × (HasQuiet rows × (HasHex rows × (HasFlag (codes "offsets") rows × ⊤)))
 
-check_names : (rows : List Row) → HasFile rows × HasQuiet rows × HasHex rows × HasFlag (codes "salvage") rows × ⊤ → Chooses (codes "check") rows
-check_names rows (file, quiet, hex, salvage, end) none =
+abbrev pub HoldsSalvage : List Row → Type 0
+HoldsSalvage rows = HasFile rows × (HasQuiet rows × (HasHex rows × (HasFlag (codes "salvage") rows × ⊤)))
+
+abbrev pub HoldsMsg : List Row → Type 0
+HoldsMsg rows = HasFile rows × (HasQuiet rows × (HasHex rows × (HasFlag (codes "json") rows × (HasFlag (codes "relaxed") rows × (HasFlag (codes "any") rows × ⊤)))))
+
+abbrev pub HoldsJson : List Row → Type 0
+HoldsJson rows = HasFile rows × (HasQuiet rows × (HasHex rows × (HasFlag (codes "relaxed") rows × (HasFlag (codes "array") rows × ⊤))))
+
+abbrev pub HoldsText : List Row → Type 0
+HoldsText rows = HasFile rows × (HasQuiet rows × ⊤)
+
+abbrev pub HoldsLoop : List Row → Type 0
+HoldsLoop rows = HasCalls rows × ⊤
+
+dump_names : (rows : List Row) → HoldsDump rows → Chooses (codes "dump") rows
+dump_names rows (file, (quiet, (hex, (offsets, end)))) none = inl ((Dump hex.0 offsets.0, (refl, hex.1, offsets.1)), file, quiet)
+
+check_names : (rows : List Row) → HoldsSalvage rows → Chooses (codes "check") rows
+check_names rows (file, (quiet, (hex, (salvage, end)))) none =
     let apart = unless (was_given (codes "salvage") rows && was_given (codes "hex") rows) _ _ none in
     let reading = reading_by hex.0 salvage.0 rows hex.1 salvage.1 apart.0 in
     inl ((Check reading.0, (refl, reading.1)), file, quiet)
 
-canon_names : (rows : List Row) → HasFile rows × HasQuiet rows × HasHex rows × HasFlag (codes "salvage") rows × ⊤ → Chooses (codes "canon") rows
-canon_names rows (file, quiet, hex, salvage, end) none =
+canon_names : (rows : List Row) → HoldsSalvage rows → Chooses (codes "canon") rows
+canon_names rows (file, (quiet, (hex, (salvage, end)))) none =
     let apart = unless (was_given (codes "salvage") rows && was_given (codes "hex") rows) _ _ none in
     let reading = reading_by hex.0 salvage.0 rows hex.1 salvage.1 apart.0 in
     inl ((Canon reading.0, (refl, reading.1)), file, quiet)
 
 msg_names : (rows : List Row)
-    → HasFile rows × HasQuiet rows × HasHex rows × HasFlag (codes "json") rows × HasFlag (codes "relaxed") rows × HasFlag (codes "any") rows × ⊤ → Chooses (codes "msg") rows
-msg_names rows (file, quiet, hex, json, relaxed, any, end) none =
+    → HoldsMsg rows → Chooses (codes "msg") rows
+msg_names rows (file, (quiet, (hex, (json, (relaxed, (any, end)))))) none =
     let whole = unless (was_given (codes "relaxed") rows && not (was_given (codes "json") rows)) _ _ none in
     let apart = unless (was_given (codes "any") rows && was_given (codes "json") rows) _ _ whole.1 in
     inl (msg_by hex.0 any.0 json.0 relaxed.0 rows hex.1 any.1 json.1 relaxed.1 whole.0 apart.0, file, quiet)
 
-json_names : (rows : List Row) → HasFile rows × HasQuiet rows × HasHex rows × HasFlag (codes "relaxed") rows × HasFlag (codes "array") rows × ⊤ → Chooses (codes "json") rows
-json_names rows (file, quiet, hex, relaxed, array, end) none = inl (json_by hex.0 relaxed.0 array.0 rows hex.1 relaxed.1 array.1, file, quiet)
+json_names : (rows : List Row) → HoldsJson rows → Chooses (codes "json") rows
+json_names rows (file, (quiet, (hex, (relaxed, (array, end))))) none = inl (json_by hex.0 relaxed.0 array.0 rows hex.1 relaxed.1 array.1, file, quiet)
 
-text_names : (command : Command) (name : Text) → ((rows : List Row) → IsCommand command name rows) → (rows : List Row) → HasFile rows × HasQuiet rows × ⊤ → Chooses name rows
-text_names command name is rows (file, quiet, end) none = inl ((command, is rows), file, quiet)
+text_names : (command : Command) (name : Text) → ((rows : List Row) → IsCommand command name rows) → (rows : List Row) → HoldsText rows → Chooses name rows
+text_names command name is rows (file, (quiet, end)) none = inl ((command, is rows), file, quiet)
 
-loop_names : (rows : List Row) → HasCalls rows × ⊤ → Chooses (codes "loop") rows
+loop_names : (rows : List Row) → HoldsLoop rows → Chooses (codes "loop") rows
 loop_names rows (calls, end) none = inr (refl, calls)
 
 -- what holds of the name holds of one that is the same
 named : (name other : Text) (rows : List Row) → name ≡ other → Chooses other rows → Chooses name rows
 named name other rows is chooses = subst (λ (n : Text). Chooses n rows) (sym is) chooses
 
-names : (name : Text) (rows : List Row) → IsOfForm TABLE.forms.now name rows → Chooses name rows
+-- the name is that of a subcommand, and the matches hold what its rows say
+abbrev pub IsOfTable : Text → List Row → Type 0
+IsOfTable name rows =
+    ((name ≡ codes "dump") × HoldsDump rows) ⊎ ((name ≡ codes "check") × HoldsSalvage rows) ⊎ ((name ≡ codes "canon") × HoldsSalvage rows) ⊎ ((name ≡ codes "msg") × HoldsMsg rows)
+    ⊎ ((name ≡ codes "json") × HoldsJson rows) ⊎ ((name ≡ codes "bson") × HoldsText rows) ⊎ ((name ≡ codes "play") × HoldsText rows) ⊎ ((name ≡ codes "loop") × HoldsLoop rows) ⊎ ⊥
+
+names : (name : Text) (rows : List Row) → IsOfTable name rows → Chooses name rows
 names name rows (inl (is, held)) = named name _ rows is (dump_names rows held)
 names name rows (inr (inl (is, held))) = named name _ rows is (check_names rows held)
 names name rows (inr (inr (inl (is, held)))) = named name _ rows is (canon_names rows held)
@@ -175,6 +189,9 @@ names name rows (inr (inr (inr (inr (inr (inr (inl (is, held)))))))) = named nam
 names name rows (inr (inr (inr (inr (inr (inr (inr (inl (is, held))))))))) = named name _ rows is (loop_names rows held)
 names name rows (inr (inr (inr (inr (inr (inr (inr (inr none)))))))) = absurd none
 
-pub met_may_choose : (met : Option (Text × List Row)) → IsMet TABLE.forms.now met → MayChoose met
-met_may_choose None met = absurd met
-met_may_choose (Some met) is = names met.0 met.1 is
+pub of_table : (name : Text) (rows : List Row) → IsOfTable name rows → MayChoose (Some (name, rows))
+of_table name rows is = names name rows is
+
+pub met_may_choose : (forms : List Form) → MakeChoices forms → (met : Option (Text × List Row)) → IsMet forms met → MayChoose met
+met_may_choose forms makes None met = absurd met
+met_may_choose forms makes (Some met) is = makes met.0 met.1 is

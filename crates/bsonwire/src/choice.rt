@@ -9,7 +9,7 @@ ghost use Rattle.bsonwire.specs.Choices.{MayChoose, NamesChoice, NamesCommand, a
 ghost use Rattle.bsonwire.specs.Choices.{flags_fault, is_array, is_relaxed, kinds_of_clash};
 ghost use Rattle.bsonwire.specs.Choices.{lacks_json, salvages_text, words_fault};
 
-use crate::command_line::{Clash, TABLE, error_of};
+use crate::command_line::{Clash, error_of, table};
 use clap::{ArgMatches, Error};
 use command_words::{flag_of, is_given, operand_of, parse, small_number_of};
 use file_commands::{Layout, MessageForm, Mode};
@@ -280,6 +280,6 @@ pub fn choose<'a>(alloc: Global, words: &'a [&'a str]) -> Result<Choice<'a>, Err
     ensures chosen { IfOk result (λ c. IsChosen c (map (λ w. w.now) words.now)) }
     ensures kinds { FailsBy (words_fault (map (λ w. w.now) words.now)) result }
 {
-    let matches = parse(alloc, &TABLE, words)?;
+    let matches = parse(alloc, &table(), words)?;
     chosen(alloc, &matches)
 }

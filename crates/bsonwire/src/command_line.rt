@@ -2,7 +2,9 @@
 
 ghost use Rattle.std.specs.Prelude.{◌≡◌, IfOk};
 ghost use Rattle.clap.specs.Words.{kind_of};
-ghost use Rattle.bsonwire.specs.Choices.{kind_of_clash};
+ghost use Rattle.command_words.specs.Tables.{IsTable, line_app};
+ghost use Rattle.bsonwire.specs.Choices.{MakeChoices, kind_of_clash};
+ghost use Rattle.bsonwire.specs.CommandLine.{command_line};
 
 use clap::Error;
 use clap::error::ErrorKind;
@@ -188,13 +190,19 @@ const LOOP: Form<'static> = Form {
     rows: &[CALLS],
 };
 
-/// The whole command line.
-pub const TABLE: Table<'static> = Table {
-    name: "bsonwire",
-    about: "Reads BSON documents and MongoDB wire messages",
-    after_help: AFTER_HELP,
-    forms: &[DUMP, CHECK, CANON, MSG, JSON, BSON, PLAY, LOOP],
-};
+/// Returns the whole command line.
+pub fn table() -> Table<'static>
+    ensures table { IsTable result }
+    ensures line { line_app result ≡ command_line }
+    ensures choices { MakeChoices result.forms.now }
+{
+    Table {
+        name: "bsonwire",
+        about: "Reads BSON documents and MongoDB wire messages",
+        after_help: AFTER_HELP,
+        forms: &[DUMP, CHECK, CANON, MSG, JSON, BSON, PLAY, LOOP],
+    }
+}
 
 /// Why the words of a subcommand that `clap` accepts are at fault.
 #[derive(Clone, Copy)]

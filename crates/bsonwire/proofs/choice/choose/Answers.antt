@@ -1,26 +1,15 @@
-use Rattle.std.proofs.Common.{◌≡◌, inl, inr, Option, List, [], ◌∷◌, Result, Ok, Err, ap, refl, subst, sym, map, true}
-use Rattle.std.specs.Prelude.{IfOk}
+use Rattle.std.proofs.Common.{◌≡◌, ◌∙◌, inl, inr, Option, List, [], ◌∷◌, Result, Ok, Err, ap, refl, subst, sym, map}
+use Rattle.std.specs.Prelude.{IfOk, IsErrAnd}
 use Rattle.clap.specs.Kinds.{HasKind, IsAmong, Kinds, or_else}
 use Rattle.clap.specs.Words.{App, FailsBy, Row, Text, fault_of, subcommand_of, subcommand_rows_of}
 use Rattle.clap.specs.declared.error.Error.{Error}
 use Rattle.clap.specs.declared.error.kind.ErrorKind.{ErrorKind}
-use Rattle.clap.specs.declared.parser.matches.ArgMatches.{ArgMatches}
-use Rattle.clap.proofs.OnLiterals.{clap_on_literals}
-use Rattle.command_words.specs.Tables.{IsTable, line_app}
+use Rattle.command_words.specs.Tables.{line_app}
 use Rattle.bsonwire.specs.CommandLine.{command_line}
 use Rattle.bsonwire.specs.Choices.{IsChosen, IsMetSubcommand, flags_fault, words_fault}
 use Rattle.bsonwire.specs.declared.choice.Choice.{Choice}
-use Rattle.bsonwire.specs.declared.command_line.TheConstants.{TABLE}
 use Rattle.bsonwire.proofs.ParseLemmas.{met_may_choose}
 use Rattle.bsonwire.proofs.choice.choose.Goals as goal
-
-is_table : IsTable TABLE
-unfolding clap_on_literals
-is_table = (refl, refl, refl)
-
--- the table is the command line
-is_line : line_app TABLE ≡ command_line
-is_line = refl
 
 -- a kind of the first faults is one of both
 among_first : (k : ErrorKind) (a b : Kinds) → IsAmong k a → IsAmong k (or_else a b)
@@ -31,30 +20,40 @@ kind_of_first : (e : Error) (a b : Kinds) → HasKind a e → HasKind (or_else a
 kind_of_first e a b (inl memory) = inl memory
 kind_of_first e a b (inr among) = inr (among_first _ a b among)
 
--- where there are no first faults, the second ones are told
-fails_second : (r : Result Choice Error) (a b : Kinds) → a ≡ [] → FailsBy b r → FailsBy (or_else a b) r
-fails_second r a b none kinds = subst (λ (x : Kinds). FailsBy (or_else x b) r) (sym none) kinds
+module _ (app : App) (is_line : app ≡ command_line) (words : List Text) where
+  -- the error of a parse is that of the choice
+  has_kind : (q : Result Choice Error) (e : Error) → HasKind (fault_of app words) e → IsErrAnd q (λ x. x ≡ e) → FailsBy (words_fault words) q
+  has_kind (Ok c) e kinds error = absurd error
+  has_kind (Err x) e kinds error =
+      let same : HasKind (fault_of command_line words) e = subst (λ (a : App). HasKind (fault_of a words) e) is_line kinds in
+      kind_of_first x (fault_of command_line words) (flags_fault (subcommand_of command_line words)) (subst (HasKind (fault_of command_line words)) (sym error) same)
 
-fails : (m : Option (Text × List Row)) (q : Result Choice Error) (words : List Text) → fault_of command_line words ≡ [] → m ≡ subcommand_of command_line words
-    → FailsBy (flags_fault m) q → FailsBy (words_fault words) q
-fails m q words none is kinds =
-    fails_second q (fault_of command_line words) (flags_fault (subcommand_of command_line words)) none (subst (λ (x : Option (Text × List Row)). FailsBy (flags_fault x) q) is kinds)
+  -- where there are no first faults, the second ones are told
+  fails : (m : Option (Text × List Row)) (q : Result Choice Error) → fault_of app words ≡ [] → m ≡ subcommand_of app words → FailsBy (flags_fault m) q → FailsBy (words_fault words) q
+  fails m q none is kinds =
+      let same : m ≡ subcommand_of command_line words = is ∙ ap (λ (a : App). subcommand_of a words) is_line in
+      let none_of : fault_of command_line words ≡ [] = subst (λ (a : App). fault_of a words ≡ []) is_line none in
+      subst (λ (x : Kinds). FailsBy (or_else x (flags_fault (subcommand_of command_line words))) q) (sym none_of) (subst (λ (x : Option (Text × List Row)). FailsBy (flags_fault x) q) same kinds)
 
-chosen_by : (m : Option (Text × List Row)) (q : Result Choice Error) (words : List Text) → m ≡ subcommand_of command_line words
-    → IfOk q (λ c. IsMetSubcommand c m) → IfOk q (λ c. IsChosen c words)
-chosen_by m (Ok c) words is met = subst (IsMetSubcommand c) is met
-chosen_by m (Err e) words is met = tt
+  chosen_by : (m : Option (Text × List Row)) (q : Result Choice Error) → m ≡ subcommand_of app words → IfOk q (λ c. IsMetSubcommand c m) → IfOk q (λ c. IsChosen c words)
+  chosen_by m (Ok c) is met = subst (IsMetSubcommand c) (is ∙ ap (λ (a : App). subcommand_of a words) is_line) met
+  chosen_by m (Err e) is met = tt
 
-pub parse-requires : goal.parse-requires
-parse-requires c = is_table
+pub returns-in_err-matches-clause-kinds : goal.returns-in_err-matches-clause-kinds
+returns-in_err-matches-clause-kinds c =
+    has_kind (line_app c.table.result) c.table.ensures.line (map (λ w. w.now) c.args.words.now) c.from_residual.result c.in_err-matches.field-0.0
+    c.in_err-matches.ensures.kinds c.from_residual.ensures.1
 
 pub chosen-requires : goal.chosen-requires
-chosen-requires c = met_may_choose (subcommand_rows_of c.in_ok-matches.matches) c.in_ok-matches.ensures.met
+chosen-requires c =
+    met_may_choose c.table.result.forms.now c.table.ensures.choices (subcommand_rows_of c.in_ok-matches.matches) c.in_ok-matches.ensures.met
 
 pub returns-clause-chosen : goal.returns-clause-chosen
 returns-clause-chosen c =
-    chosen_by (subcommand_rows_of c.in_ok-matches.matches) c.chosen.result (map (λ w. w.now) c.args.words.now) c.in_ok-matches.ensures.matches c.chosen.ensures.met
+    chosen_by (line_app c.table.result) c.table.ensures.line (map (λ w. w.now) c.args.words.now) (subcommand_rows_of c.in_ok-matches.matches) c.chosen.result
+    c.in_ok-matches.ensures.matches c.chosen.ensures.met
 
 pub returns-clause-kinds : goal.returns-clause-kinds
 returns-clause-kinds c =
-    fails (subcommand_rows_of c.in_ok-matches.matches) c.chosen.result (map (λ w. w.now) c.args.words.now) c.in_ok-matches.ensures.kinds c.in_ok-matches.ensures.matches c.chosen.ensures.kinds
+    fails (line_app c.table.result) c.table.ensures.line (map (λ w. w.now) c.args.words.now) (subcommand_rows_of c.in_ok-matches.matches) c.chosen.result
+    c.in_ok-matches.ensures.kinds c.in_ok-matches.ensures.matches c.chosen.ensures.kinds
