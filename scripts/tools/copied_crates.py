@@ -34,7 +34,7 @@ def copy_crates(source, target, names, copy_function):
     and the built libraries."""
     lines = crates_below(names)
     for name in lines:
-        ignored = shutil.ignore_patterns("must-fail", "plants", *[] if name in names else ["incremental"])
+        ignored = shutil.ignore_patterns("must-fail", *[] if name in names else ["incremental"])
         folders = [os.path.join(whole, "crates", name) for whole in (source, target)]
         shutil.copytree(*folders, ignore=ignored, copy_function=copy_function)
     with open(os.path.join(target, "crates.txt"), "w", encoding="utf-8") as file:
@@ -51,7 +51,7 @@ def link_root(target, *kinds):
     with open(os.path.join(target, "crates.txt"), "w", encoding="utf-8") as file:
         file.write("\n".join(lists))
     link(os.path.join(ROOT, "HANDLES"), os.path.join(target, "HANDLES"))
-    ignored = shutil.ignore_patterns("out", "plants", "tests.txt")
+    ignored = shutil.ignore_patterns("out", "tests.txt")
     for kind in kinds:
         # A symbolic link stays one, so that the check refuses it.
         folders = os.path.join(ROOT, kind), os.path.join(target, "crates")

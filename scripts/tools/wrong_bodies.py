@@ -1,8 +1,8 @@
-"""Finds the function that each wrong body of a crate's plants/ and must-fail/ changes, and what that function has to meet."""
+"""Finds the function that each wrong body of a crate, in plants/ or its must-fail/, changes, and what that function has to meet."""
 
 import difflib
 
-from edits import replaced
+from edits import file_of, must_fail_texts, replaced, wrong_texts
 from items import PROOFS, items_of
 
 
@@ -18,11 +18,11 @@ def changed_lines(old, new):
 class WrongBody:
     """An edit that the check refuses: its file, and the items that it changes."""
 
-    def __init__(self, path, crate):
-        self.path = path
-        self.words = path.stem.replace("_", " ")
+    def __init__(self, wrong, crate):
+        self.path = wrong.path
+        self.words = wrong.name.replace("_", " ")
         self.changed = []
-        for name, new in replaced(path, crate.folder).items():
+        for name, new in replaced(wrong, crate.folder).items():
             source = crate.folder / name
             lines = changed_lines(source.read_text(encoding="utf-8"), new)
             for item in items_of(source):
@@ -34,8 +34,9 @@ class WrongBodies:
     """The wrong bodies of a crate."""
 
     def __init__(self, crate):
-        paths = sorted([*crate.folder.glob("plants/*.edit"), *crate.folder.glob("must-fail/*.edit")], key=lambda path: path.stem)
-        self.found = [WrongBody(path, crate) for path in paths]
+        name = crate.folder.name
+        texts = [*(wrong_texts(name) if file_of(name).is_file() else []), *must_fail_texts(name)]
+        self.found = [WrongBody(wrong, crate) for wrong in sorted(texts, key=lambda wrong: wrong.name)]
 
     def by_function(self):
         """Returns the wrong bodies under what they change, in the order of the sources. Most change one function."""
