@@ -1,5 +1,5 @@
 -- What a parse of the command line holds: a number of connections where one was given.
-use Rattle.std.proofs.Common.{zero, suc, ◌≡◌, ◌∙◌, ◌<◌, ◌≤◌, ◌&&◌, ◌||◌, ap, refl, sym, subst, ℕ, Bool, true, false, not, List, [], ◌∷◌, length, Option, Some, None, inl, inr, codes, arith, true≢false}
+use Rattle.std.proofs.Common.{zero, suc, ◌≡◌, ◌∙◌, ◌<◌, ◌&&◌, ◌||◌, ap, refl, sym, subst, ℕ, Bool, true, false, not, List, [], ◌∷◌, length, Option, Some, None, inl, inr, codes, arith, true≢false}
 use Rattle.std.specs.Prelude.{IfSome, option_and_then, option_map, map, slice_get}
 use Rattle.std.specs.Borrow.{Bor}
 use Rattle.std.specs.List.{All, list_any, slice_index_or}

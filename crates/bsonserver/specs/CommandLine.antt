@@ -1,7 +1,7 @@
 -- The command line of the program, as `clap` sees it.
 use Rattle.std.specs.Prelude.{Some, codes, true}
 use Rattle.clap.specs.Simple.{on_top}
-use Rattle.clap.specs.Words.{App, Rule, Text, new_app, new_rule, with_rule}
+use Rattle.clap.specs.Words.{App, Rule, new_app, new_rule, with_rule}
 use Rattle.clap.specs.declared.builder.action.ArgAction.TheVariants.{Set}
 use Rattle.command_words.specs.{flag_rule, number_rule, text_rule}
 
