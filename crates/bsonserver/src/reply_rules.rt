@@ -31,7 +31,7 @@ pub fn gate_for(flow: Flow) -> Gate
 }
 
 impl ReplyRules {
-    /// Makes a replies by this script, to which no request was told.
+    /// Begins with the rules of this script, to which no request was told.
     pub fn new(alloc: Global, script: Script) -> ReplyRules
         ensures script { result.script ≡ script }
         ensures flow { result.flow ≡ None }

@@ -73,7 +73,7 @@ fn gate_after(flow: Flow, gate: Gate) -> Gate
     }
 }
 
-/// The connections that are served, and how many ended, with the replies to what becomes of replies.
+/// The connections that are served, how many ended, and the rules of what becomes of replies.
 #[derive(Drop)]
 pub struct Serving<L, H> {
     hall: Hall<L, H>,
