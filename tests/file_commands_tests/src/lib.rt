@@ -13,9 +13,9 @@ mod canon;
 #[cfg(test)]
 mod check;
 #[cfg(test)]
-mod dump;
-#[cfg(test)]
 mod command_refusals;
+#[cfg(test)]
+mod dump;
 #[cfg(test)]
 mod json;
 #[cfg(test)]
