@@ -12,6 +12,7 @@ pub mod SectionLaws
 pub mod PartLaws
 pub mod SplitLaws
 pub mod TextLaws
+pub mod PickleLaws
 pub mod QuickLaws
 pub mod Passing
 pub mod Sizes

@@ -12,6 +12,8 @@ pub mod Filling
 pub mod Parts
 pub mod Sections
 pub mod Splits
+pub mod Pickles
+pub mod PickleParts
 pub mod Texts
 pub mod Quick
 pub mod Headers

@@ -6,7 +6,7 @@ use Rattle.bson_elem.specs.{Spells, Tree}
 use Rattle.bson_raw.specs.{IsSpelled, WholeFault}
 use Rattle.bson_json.specs.declared.mode.Mode.{Mode}
 use Rattle.bson_json.specs.declared.mode.Mode.TheVariants.{Canonical, Relaxed}
-use Rattle.bson_pickle.specs.{document_pickle}
+use Rattle.byte_views.specs.Pickles.{document_pickle}
 use Rattle.bson_doc.specs.declared.refusal.DocRefusal.{DocRefusal}
 use Rattle.bson_doc.specs.declared.refusal.DocRefusal.TheVariants.{TooLarge}
 use Rattle.bson_doc.specs.{canonical_len, plain}

@@ -11,7 +11,7 @@
 //! for them, or is for short texts, and what writes messages takes memory. `spell_content` is for
 //! Rattle: it makes a message of the bytes of a body and of document sequences.
 //!
-//! Uses bson_raw, bson_doc, bson_text, bson_json, bson_pickle and wire_msg. Used by core_handles
+//! Uses bson_raw, bson_doc, bson_text, bson_json and wire_msg. Used by core_handles
 //! and lughemra, for programs in C, and by page, for a browser. Read first: `documents` and `iter`.
 #![tactic(auto)]
 
@@ -26,6 +26,7 @@ mod iter;
 pub mod laws;
 mod messages;
 mod parts;
+mod pickle;
 mod quick;
 mod reading;
 mod span;

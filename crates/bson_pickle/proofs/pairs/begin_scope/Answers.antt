@@ -1,7 +1,0 @@
-use Rattle.text_writer.proofs.Lemmas.{word_first}
-use Rattle.bson_pickle.proofs.pairs.begin_scope.Goals as goal
-
-pub returns : goal.returns
-returns g c =
-    word_first _ _ _ _ _ _ c.in_ok-begin_made.ensures
-    (word_first _ _ _ _ _ _ c.in_ok-write_text.ensures c.begin_dict.ensures)
