@@ -8,8 +8,8 @@
 //! link for them. So what the laws of wire_channels say of owners holds of a program that keeps an
 //! end.
 //!
-//! Stands on wire_channels and wire_model, and on the code of wire_peer and wire_stream. engines,
-//! ping, pipelined and pair stand on it. Read first: `client_end` and `specs/Ends.antt`, then
+//! Stands on wire_channels and wire_model, and on the code of wire_peer and wire_stream. loopback
+//! and client_examples stand on it. Read first: `client_end` and `specs/Ends.antt`, then
 //! `server_end` and `specs/ServerEnds.antt`, and then `serving` and `specs/Serving.antt`.
 #![tactic(auto)]
 

@@ -1,5 +1,0 @@
-pub mod Acting
-pub mod Moving
-pub mod Keeping
-pub mod Knowing
-pub mod Listing

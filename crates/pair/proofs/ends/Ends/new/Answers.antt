@@ -1,6 +1,0 @@
-use Rattle.std.proofs.Common.{rules}
-use Rattle.pair.proofs.Moving.{begun}
-use Rattle.pair.proofs.ends.Ends.new.Goals as goal
-
-pub returns : goal.returns
-returns g c = begun g.H.Handler.does g.H.Handler.stops c.args.handler _ (search rules) (search rules) (search rules) (search rules) (search rules) (search rules) (search rules)

@@ -1,5 +1,0 @@
-use Rattle.pair.proofs.Moving.{stays}
-use Rattle.pair.proofs.runs.cut.Goals as goal
-
-pub returns-else-word-eq0 : goal.returns-else-word-eq0
-returns-else-word-eq0 g c = stays g.H.Handler.does g.H.Handler.stops c.args.ends.now

@@ -1,5 +1,0 @@
-use Rattle.pair.specs.Pairs.{Reached}
-use Rattle.pair.proofs.runs.run.Given as goal
-
-abbrev pub invariant-loop : goal.invariant-loop
-invariant-loop g l = Reached g.H.Handler.does g.H.Handler.stops l.fn.handler l.ends
