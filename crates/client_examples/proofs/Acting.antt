@@ -11,13 +11,11 @@ use Rattle.wire_peer.specs.declared.log.Logged.{Logged}
 use Rattle.wire_peer.specs.declared.server_state.AnswerRefusal.{AnswerRefusal}
 use Rattle.wire_peer.specs.declared.server_state.ServerState.TheVariants.{Open}
 use Rattle.wire_peer.proofs.Lemmas.{client_own, server_own}
-use Rattle.wire_model.specs.{Record, asked_as, ended_server, lost_record, new_record, put_at, with_client_output, with_server_output}
-use Rattle.wire_model.proofs.Lemmas.{log_contents}
-use Rattle.wire_channels.specs.{Arrive, ClientAct, ClientDoes, ClientEnd, Deed, ServerAct, ServerDoes, Way}
-use Rattle.wire_channels.specs.Channels.{put_in}
-use Rattle.wire_channels.specs.Owners as owners
-use Rattle.wire_channels.specs.Deeds.{AtClient, AtServer, at_one}
-use Rattle.wire_channels.proofs.Lemmas.{client_on, server_on}
+use Rattle.wire_model.specs.{Arrive, ClientAct, ClientDoes, ClientEnd, Deed, Record, ServerAct, ServerDoes, Way, asked_as, ended_server, lost_record, new_record, put_at, with_client_output, with_server_output}
+use Rattle.wire_model.proofs.Lemmas.{client_on, log_contents, server_on}
+use Rattle.wire_model.specs.Channels.{put_in}
+use Rattle.wire_model.specs.Owners as owners
+use Rattle.wire_model.specs.Deeds.{AtClient, AtServer, at_one}
 use Rattle.wire_end.specs.{AreInOrder, records_of}
 use Rattle.client_examples.specs.declared.pair.ends.Ends.{Ends}
 use Rattle.client_examples.specs.Owning.{Acts, ArriveFrom, Told, client_end, message_limit, server_end}

@@ -9,7 +9,7 @@ use Rattle.wire_msg.specs.{Content}
 use Rattle.wire_peer.specs.declared.calls.CallKind.{CallKind}
 use Rattle.wire_model.specs.{Record, asked_as, given_record, lost_record, new_record, put_at, put_part}
 use Rattle.wire_model.proofs.Lemmas.{get-push_new, get-push_old, length-slice_set}
-use Rattle.wire_channels.specs.Channels.{lost_at}
+use Rattle.wire_model.specs.Channels.{lost_at}
 use Rattle.wire_end.specs.{record_of, records_of}
 use Rattle.wire_end.specs.declared.call_record.CallRecord.{CallRecord}
 use Rattle.client_examples.specs.Pairs.{AreNumbered}

@@ -1,8 +1,8 @@
 -- What the owners of the ends know of a run.
 use Rattle.std.proofs.Common.{[], append-nil, arith, subst}
 use Rattle.wire_peer.specs.{Does, Stops}
-use Rattle.wire_channels.specs.{AreMade, Arrive}
-use Rattle.wire_channels.specs.Seen.{Channelled}
+use Rattle.wire_model.specs.{AreMade, Arrive}
+use Rattle.wire_model.specs.Seen.{Channelled}
 use Rattle.wire_end.proofs.Lemmas.{are_answered, pair_knows}
 use Rattle.client_examples.specs.declared.pair.ends.Ends.{Ends}
 use Rattle.client_examples.specs.Owning.{Told, client_end, made_for_four, message_limit, server_end}

@@ -14,8 +14,8 @@ use Rattle.wire_peer.specs.declared.server_state.ServerState.TheVariants.{Open}
 use Rattle.wire_msg.specs.{Content}
 use Rattle.wire_model.specs.{asked_as, ended_server, lost_record, new_record, put_at, with_client_output, with_server_output}
 use Rattle.wire_model.proofs.Lemmas.{log_contents}
-use Rattle.wire_channels.specs.Channels.{Comes, IsCut, Pair, Step, Steps, System, Way, client_sent, fewer, pair_at, pair_set, put_in, server_ended, server_sent, with_pair}
-use Rattle.wire_channels.specs.Channels as channels
+use Rattle.wire_model.specs.Channels.{Comes, IsCut, Pair, Step, Steps, System, Way, client_sent, fewer, pair_at, pair_set, put_in, server_ended, server_sent, with_pair}
+use Rattle.wire_model.specs.Channels as channels
 use Rattle.client_examples.specs.declared.pair.ends.Ends.{Ends}
 use Rattle.wire_end.specs.{record_of, records_of}
 use Rattle.wire_end.specs.declared.call_record.CallRecord.{CallRecord}

@@ -2,8 +2,8 @@
 -- in order.
 use Rattle.std.specs.Prelude.{◌≡◌, ℕ, pos, List, [], ◌++◌}
 use Rattle.wire_peer.specs.{Does, Stops, log_of, new_server}
-use Rattle.wire_channels.specs.{Arrive, ClientAct, ClientEnd, ClientRun, Deed, Made, ServerAct}
-use Rattle.wire_channels.specs.{ServerEnd, ServerRun, first_end}
+use Rattle.wire_model.specs.{Arrive, ClientAct, ClientEnd, ClientRun, Deed, Made, ServerAct}
+use Rattle.wire_model.specs.{ServerEnd, ServerRun, first_end}
 use Rattle.wire_end.specs.{AreInOrder, records_of}
 use Rattle.client_examples.specs.declared.pair.ends.Ends.{Ends}
 

@@ -1,9 +1,9 @@
 -- The two ends of the program, as a system of one pair, and what is known of a run of them.
 use Rattle.std.specs.Prelude.{◌≡◌, ℕ, ◌<◌, Bool, Some, List, [], ◌∷◌, length, slice_get}
 use Rattle.wire_peer.specs.{Does, Stops, log_of}
-use Rattle.wire_channels.specs.{Arrive}
-use Rattle.wire_channels.specs.Channels.{Pair, Steps, System, Trace, no_pairs}
-use Rattle.wire_channels.specs.Seen.{Channelled}
+use Rattle.wire_model.specs.{Arrive}
+use Rattle.wire_model.specs.Channels.{Pair, Steps, System, Trace, no_pairs}
+use Rattle.wire_model.specs.Seen.{Channelled}
 use Rattle.wire_end.specs.{AreAnswered, PairKnows, records_of}
 use Rattle.client_examples.specs.Owning.{Acts, Told, client_end, made_for_four, message_limit}
 use Rattle.client_examples.specs.Owning.{server_end}

@@ -4,10 +4,9 @@
 ghost use Rattle.std.specs.Prelude.{◌≡◌, ◌∷◌, List, OnOk, Some, slice_get};
 ghost use Rattle.bson_text.specs.{document_text};
 ghost use Rattle.text_writer.specs.{WritesOut};
-ghost use Rattle.wire_channels.specs.{ClientAct};
-ghost use Rattle.wire_channels.specs.Owners.{Calls};
+ghost use Rattle.wire_model.specs.{ClientAct, Record};
+ghost use Rattle.wire_model.specs.Owners.{Calls};
 ghost use Rattle.wire_end.specs.{EndRuns};
-ghost use Rattle.wire_model.specs.{Record};
 ghost use Rattle.wire_msg.specs.{Content};
 ghost use Rattle.wire_peer.specs.declared.calls.CallKind.TheVariants.{Plain};
 

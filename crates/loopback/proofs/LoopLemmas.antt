@@ -9,7 +9,7 @@ use Rattle.bson_elem.specs.{IsBytes}
 use Rattle.wire_peer.specs.{LogEntry, log_of, new_server}
 use Rattle.wire_peer.specs.declared.echoing.Echo.{Echo}
 use Rattle.wire_peer.specs.declared.log.Logged.{Logged}
-use Rattle.wire_channels.specs.{AreMade, ClientAct, ClientRun, ServerAct, ServerRun, first_end}
+use Rattle.wire_model.specs.{AreMade, ClientAct, ClientRun, ServerAct, ServerRun, first_end}
 use Rattle.wire_end.specs.{AreAnswered, EndRuns, EndSeen, ServerEndRuns, ServerEndSeen, with_logged}
 use Rattle.wire_end.proofs.Lemmas.{are_answered, end_runs_on, pair_knows, runs_on}
 use Rattle.loopback.specs.Calling.{AreComplete}

@@ -24,11 +24,9 @@ use Rattle.wire_peer.specs.declared.client_state.ClientState.{ClientState}
 use Rattle.wire_peer.specs.declared.client_state.ClientState.TheVariants.{Open, Closed}
 use Rattle.wire_peer.specs.declared.calls.CallKind.TheVariants.{Plain}
 use Rattle.wire_peer.specs.declared.calls.CallNo.{CallNo}
-use Rattle.wire_model.specs.{Record, asked_as, given_record, new_record, put_at}
-use Rattle.wire_model.proofs.Lemmas.{get-push_new}
-use Rattle.wire_channels.specs.{ClientAct, ClientEnd, ClientRun, bytes_sent, bytes_taken}
-use Rattle.wire_channels.specs.Owners.{Calls, Collects, SendsUp, TakesDown}
-use Rattle.wire_channels.proofs.Lemmas.{taken_on}
+use Rattle.wire_model.specs.{ClientAct, ClientEnd, ClientRun, Record, asked_as, bytes_sent, bytes_taken, given_record, new_record, put_at}
+use Rattle.wire_model.proofs.Lemmas.{get-push_new, taken_on}
+use Rattle.wire_model.specs.Owners.{Calls, Collects, SendsUp, TakesDown}
 use Rattle.wire_end.specs.{EndRuns, EndSeen}
 use Rattle.loopback.specs.Calling.{AreComplete, IsIdle, call_body, done_call, done_calls}
 use Rattle.loopback.specs.Loopback.{GetsReply, arrived, request_bytes}

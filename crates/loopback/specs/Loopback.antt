@@ -11,8 +11,8 @@ use Rattle.wire_peer.specs.declared.calls.CallKind.TheVariants.{Plain}
 use Rattle.wire_peer.specs.declared.echoing.Echo.{Echo}
 use Rattle.wire_peer.specs.declared.handlers.HandlerStop.TheVariants.{OutOfMemory}
 use Rattle.wire_peer.specs.declared.log.Logged.{Logged}
-use Rattle.wire_channels.specs.{Arrive, ClientAct, ClientEnd, ClientRun, Deed, Made, ServerAct}
-use Rattle.wire_channels.specs.{ServerEnd, ServerRun, first_end}
+use Rattle.wire_model.specs.{Arrive, ClientAct, ClientEnd, ClientRun, Deed, Made, ServerAct}
+use Rattle.wire_model.specs.{ServerEnd, ServerRun, first_end}
 use Rattle.wire_end.specs.{AreAnswered, AreInOrder, EndRuns, EndSeen, ServerEndRuns}
 use Rattle.wire_end.specs.{ServerEndSeen, first_client, new_server_end}
 use Rattle.loopback.specs.Calling.{AreComplete, call_body, done_calls}

@@ -7,7 +7,7 @@ ghost use Rattle.loopback.specs.Calling.{AreComplete};
 ghost use Rattle.loopback.specs.Loopback.{AppendsUpTo, HaveMade, HaveRun, HaveTold, call_line};
 ghost use Rattle.loopback.specs.Loopback.{echo_does, echo_stops, last_line, loop_text};
 ghost use Rattle.loopback.specs.Loopback.{requests_bytes};
-ghost use Rattle.wire_channels.specs.{ClientAct, ServerAct};
+ghost use Rattle.wire_model.specs.{ClientAct, ServerAct};
 ghost use Rattle.wire_end.specs.{EndRuns, ServerEndRuns};
 
 use crate::loop_call::Loopback;

@@ -8,8 +8,8 @@ use Rattle.wire_peer.specs.{AnswerStep, Does, Stops, log_of}
 use Rattle.wire_peer.specs.declared.log.Logged.{Logged}
 use Rattle.wire_peer.specs.declared.server_state.AnswerRefusal.{AnswerRefusal}
 use Rattle.wire_peer.specs.declared.server_state.ServerState.TheVariants.{Open}
-use Rattle.wire_channels.specs.{ServerAct}
-use Rattle.wire_channels.specs.Owners.{Answers, SendsDown}
+use Rattle.wire_model.specs.{ServerAct}
+use Rattle.wire_model.specs.Owners.{Answers, SendsDown}
 use Rattle.wire_end.specs.Answering.{AnswersAs, SentPart, StandsAfter, WaitsAlone, end_of}
 use Rattle.wire_end.specs.ServerEnds.{ServerEndMoves, ServerEndRuns, ServerEndSeen, with_logged}
 use Rattle.wire_end.specs.Serving.{Seen, seen}

@@ -13,8 +13,8 @@ use Rattle.wire_peer.specs.declared.client_state.ClientCause.{ClientCause}
 use Rattle.wire_peer.specs.declared.client_state.ClientCause.TheVariants as causes
 use Rattle.wire_peer.specs.declared.client_state.ClientState.{ClientState}
 use Rattle.wire_peer.specs.declared.client_state.ClientState.TheVariants.{Closed, Open}
-use Rattle.wire_channels.specs.{ClientEnd, ClientRun}
-use Rattle.wire_channels.specs.Owners.{EndsDown, TakesDown}
+use Rattle.wire_model.specs.{ClientEnd, ClientRun}
+use Rattle.wire_model.specs.Owners.{EndsDown, TakesDown}
 use Rattle.wire_stream.specs.{Rose}
 use Rattle.wire_end.specs.declared.next.EndFault.TheVariants as faults
 use Rattle.wire_end.specs.Ends.{Closes, EndRuns, EndSeen, IsWaiting, NextEnds}

@@ -11,16 +11,15 @@ use Rattle.wire_stream.specs.{AddsTurns, CompletesHeader, Rose, StandsAt, Turn}
 use Rattle.wire_stream.specs.declared.link.LinkFault.{LinkFault}
 use Rattle.wire_stream.specs.declared.reader_state.ReaderState.{ReaderState}
 use Rattle.wire_stream.specs.declared.reader_state.ReaderState.TheVariants.{Bad, Need, Ready}
-use Rattle.wire_model.specs.{ended_server}
+use Rattle.wire_model.specs.{ServerAct, bytes_taken_up, ended_server}
 use Rattle.wire_peer.specs.{ServerView, closed_for, end_cause}
 use Rattle.wire_peer.specs.Servers.{holding}
 use Rattle.wire_peer.specs.declared.server_state.ServerCause.{ServerCause}
 use Rattle.wire_peer.specs.declared.server_state.ServerCause.TheVariants.{Message}
 use Rattle.wire_peer.specs.declared.server_state.ServerState.{ServerState}
 use Rattle.wire_peer.specs.declared.server_state.ServerState.TheVariants.{Closed}
-use Rattle.wire_channels.specs.{ServerAct, bytes_taken_up}
-use Rattle.wire_channels.specs.Owners.{EndsUp, TakesUp}
-use Rattle.wire_channels.proofs.Lemmas.{taken_up_on}
+use Rattle.wire_model.specs.Owners.{EndsUp, TakesUp}
+use Rattle.wire_model.proofs.Lemmas.{taken_up_on}
 use Rattle.wire_end.specs.declared.next.NextRequest.{NextRequest}
 use Rattle.wire_end.specs.declared.next.NextRequest.TheVariants.{Waits}
 use Rattle.wire_end.specs.declared.next.RequestFault.{RequestFault}

@@ -4,7 +4,7 @@ use Rattle.std.specs.Prelude.{Result}
 use Rattle.std.proofs.lemmas.Option.{same_Some}
 use Rattle.std.specs.Io.KnownBytes.{Appends}
 use Rattle.wire_msg.specs.{Content, IsMessage, Message, SpellsMsg}
-use Rattle.wire_model.specs.{with_server_output}
+use Rattle.wire_model.specs.{ServerEnd, ServerMovesOn, ServerRun, with_server_output}
 use Rattle.wire_peer.specs.{AnswerStep, Does, ReplyState, ReplyStep, ServerView, Stops, asked_by, entered, next_id, replies, written}
 use Rattle.wire_peer.specs.Replying.{IsAnswered, put}
 use Rattle.wire_peer.specs.ServerAnswers.{cause_of, replies_of}
@@ -17,8 +17,7 @@ use Rattle.wire_peer.specs.declared.server_state.ServerCause.{ServerCause}
 use Rattle.wire_peer.specs.declared.server_state.ServerCause.TheVariants as causes
 use Rattle.wire_peer.specs.declared.server_state.ServerState.{ServerState}
 use Rattle.wire_peer.specs.declared.server_state.ServerState.TheVariants.{Closed, Open}
-use Rattle.wire_channels.specs.{ServerEnd, ServerMovesOn, ServerRun}
-use Rattle.wire_channels.specs.Owners.{Answers, SendsDown}
+use Rattle.wire_model.specs.Owners.{Answers, SendsDown}
 use Rattle.wire_end.specs.Answering.{AnswersAs, GotEntry, SentPart, StandsAfter, end_by, end_of}
 use Rattle.wire_end.specs.Serving.{Seen}
 

@@ -2,13 +2,11 @@
 use Rattle.std.proofs.Common.{◌≡◌, ◌<◌, ◌^◌, ℕ, Bool, List, [], ◌∷◌, Some, refl, sym, subst, ap, ◌∙◌, inl, inr, arith}
 use Rattle.std.specs.Prelude.{if◌then◌else◌, slice_get}
 use Rattle.wire_peer.specs.{Does, LogEntry, ServerView, Stops, new_server}
-use Rattle.wire_model.specs.{Done, Record}
+use Rattle.wire_model.specs.{AreMade, Arrive, ClientAct, ClientEnd, ClientRun, Deed, Done, IsCallOf, Made, Record, ServerAct, ServerEnd, ServerEnds, ServerRun, ServersRun, acts_at, among, at_server, first_end, first_servers_of}
 use Rattle.wire_model.specs.Machines.{Answered, Place}
-use Rattle.wire_model.proofs.Lemmas.{is_elsewhere, is_here, same_or_not}
-use Rattle.wire_channels.specs.{AreMade, Arrive, ClientAct, ClientEnd, ClientRun, Deed, IsCallOf, Made, ServerAct, ServerEnd, ServerEnds, ServerRun, ServersRun, acts_at, among, at_server, first_end, first_servers_of}
-use Rattle.wire_channels.specs.Deeds.{AtClient, AtServer}
-use Rattle.wire_channels.specs.Knowing.{IsEntry}
-use Rattle.wire_channels.proofs.Lemmas.{know, run_among}
+use Rattle.wire_model.proofs.Lemmas.{is_elsewhere, is_here, know, run_among, same_or_not}
+use Rattle.wire_model.specs.Deeds.{AtClient, AtServer}
+use Rattle.wire_model.specs.Knowing.{IsEntry}
 use Rattle.wire_end.specs.OnePair.{AreAnswered, AreInOrder, PairKnows, only_client}
 
 -- ---- the acts of each

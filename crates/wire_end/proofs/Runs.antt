@@ -7,15 +7,14 @@ use Rattle.bson_elem.specs.{IsBytes}
 use Rattle.wire_msg.specs.{Content, Message, SpellsMsg}
 use Rattle.wire_msg.specs.declared.payloads.Payload.{Payload}
 use Rattle.wire_msg.proofs.Lemmas.{bytes_append}
-use Rattle.wire_model.specs.{ClientTakes, Record, asked_as, new_record, put_at, with_client_output}
+use Rattle.wire_model.specs.{ClientAct, ClientDoes, ClientEnd, ClientRun, ClientTakes, Record, asked_as, bytes_sent, bytes_taken, new_record, put_at, with_client_output}
 use Rattle.wire_peer.specs.{ClientSeen, IsCalled, called, content_of, released}
 use Rattle.wire_peer.specs.declared.call_table.ReadyReply.{ReadyReply}
 use Rattle.wire_peer.specs.declared.calls.CallKind.{CallKind}
 use Rattle.wire_peer.specs.declared.calls.CallNo.{CallNo}
 use Rattle.wire_peer.specs.declared.client_state.ClientCause.{ClientCause}
-use Rattle.wire_channels.specs.{ClientAct, ClientDoes, ClientEnd, ClientRun, bytes_sent, bytes_taken}
-use Rattle.wire_channels.specs.Owners.{Calls, Collects, EndsDown, SendsUp, TakesDown}
-use Rattle.wire_channels.proofs.Lemmas.{client_on, sent_on, taken_on}
+use Rattle.wire_model.specs.Owners.{Calls, Collects, EndsDown, SendsUp, TakesDown}
+use Rattle.wire_model.proofs.Lemmas.{client_on, sent_on, taken_on}
 use Rattle.wire_end.specs.declared.next.EndFault.{EndFault}
 use Rattle.wire_end.specs.declared.next.EndFault.TheVariants as faults
 use Rattle.wire_end.specs.declared.next.Next.TheVariants.{Reply}

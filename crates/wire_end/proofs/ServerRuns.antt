@@ -6,14 +6,12 @@ use Rattle.std.proofs.KnownBytes.{Appends-kept, Appends-nil, Appends-trans}
 use Rattle.std.proofs.lemmas.Grind.{common_steps}
 use Rattle.bson_elem.specs.{IsBytes}
 use Rattle.wire_msg.proofs.Lemmas.{bytes_append}
-use Rattle.wire_model.proofs.Lemmas.{log_contents}
-use Rattle.wire_model.specs.{ServerTakes, ended_server, with_server_output}
+use Rattle.wire_model.proofs.Lemmas.{log_contents, moves_on, moves_run, sent_down_on, server_on, taken_up_on}
+use Rattle.wire_model.specs.{ServerAct, ServerTakes, bytes_sent_down, bytes_taken_up, ended_server, with_server_output}
 use Rattle.wire_peer.specs.{AnswerStep, Does, ServerView, Stops, log_of}
 use Rattle.wire_peer.specs.declared.log.Logged.{Logged}
 use Rattle.wire_peer.specs.declared.server_state.AnswerRefusal.{AnswerRefusal}
-use Rattle.wire_channels.specs.{ServerAct, bytes_sent_down, bytes_taken_up}
-use Rattle.wire_channels.specs.Owners.{Answers, EndsUp, SendsDown, TakesUp}
-use Rattle.wire_channels.proofs.Lemmas.{moves_on, moves_run, sent_down_on, server_on, taken_up_on}
+use Rattle.wire_model.specs.Owners.{Answers, EndsUp, SendsDown, TakesUp}
 use Rattle.wire_end.specs.ServerEnds.{GoesOver, ServerEndMoves, ServerEndRuns, ServerEndSeen, parts, with_logged}
 
 pub no_bytes : IsBytes []

@@ -11,7 +11,7 @@ use Rattle.wire_peer.specs.declared.log.Logged.{Logged}
 use Rattle.wire_peer.specs.declared.server_state.ServerCause.{ServerCause}
 use Rattle.wire_peer.specs.declared.server_state.ServerCause.TheVariants as causes
 use Rattle.wire_peer.specs.declared.server_state.ServerState.TheVariants.{Closed, Open}
-use Rattle.wire_channels.specs.{ServerAct, bytes_taken_up}
+use Rattle.wire_model.specs.{ServerAct, bytes_taken_up}
 use Rattle.wire_end.specs.Answering.{AnswersAs, CountsLater, StandsAfter, WaitsAlone, end_by, end_with}
 use Rattle.wire_end.specs.NextRequests.{Closes, HasGoodHeader, RequestComes, RequestFails, RequestLater}
 use Rattle.wire_end.specs.Turns.{AreBetween}

@@ -8,8 +8,8 @@ use Rattle.wire_peer.specs.{ClientSeen, MayTake, new_client}
 use Rattle.wire_peer.specs.declared.client_state.ClientCause.{ClientCause}
 use Rattle.wire_peer.specs.declared.client_state.ClientCause.TheVariants as causes
 use Rattle.wire_peer.specs.declared.client_state.ClientState.TheVariants.{Closed, Open}
-use Rattle.wire_channels.specs.{ClientAct, ClientEnd, ClientRun, Made, bytes_sent, bytes_taken}
-use Rattle.wire_channels.specs.Owners.{Collects, EndsDown, TakesDown}
+use Rattle.wire_model.specs.{ClientAct, ClientEnd, ClientRun, Made, bytes_sent, bytes_taken}
+use Rattle.wire_model.specs.Owners.{Collects, EndsDown, TakesDown}
 use Rattle.wire_stream.specs.{Rose}
 use Rattle.wire_end.specs.declared.next.EndFault.{EndFault}
 use Rattle.wire_end.specs.declared.next.EndFault.TheVariants as faults

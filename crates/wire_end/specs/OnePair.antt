@@ -1,11 +1,10 @@
 -- One client and one server: what was done at both, in one order, and what is known of the calls.
 use Rattle.std.specs.Prelude.{◌≡◌, ℕ, ◌==◌, if◌then◌else◌, Some, List, [], ◌∷◌, slice_get}
 use Rattle.wire_peer.specs.{Does, LogEntry, Stops}
-use Rattle.wire_model.specs.{Done, Record}
-use Rattle.wire_channels.specs.{ClientAct, ClientEnd, Deed, Made, OwnersKnow, ServerAct, ServerEnd}
-use Rattle.wire_channels.specs.{among, first_end}
-use Rattle.wire_channels.specs.Deeds.{AtClient, AtServer}
-use Rattle.wire_channels.specs.Knowing.{IsEntry}
+use Rattle.wire_model.specs.{ClientAct, ClientEnd, Deed, Done, Made, OwnersKnow, Record, ServerAct}
+use Rattle.wire_model.specs.{ServerEnd, among, first_end}
+use Rattle.wire_model.specs.Deeds.{AtClient, AtServer}
+use Rattle.wire_model.specs.Knowing.{IsEntry}
 
 -- These deeds are these acts of the client and these of the server, in one order. Their connection
 -- is number 1.

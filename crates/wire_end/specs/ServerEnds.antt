@@ -4,8 +4,8 @@ use Rattle.std.specs.Io.KnownBytes.{Appends}
 use Rattle.bson_elem.specs.{IsBytes}
 use Rattle.wire_peer.specs.{Does, ServerView, Stops, log_of}
 use Rattle.wire_peer.specs.declared.log.Logged.{Logged}
-use Rattle.wire_channels.specs.{ServerAct, ServerEnd, ServerMovesOn, ServerRun, bytes_sent_down}
-use Rattle.wire_channels.specs.{bytes_taken_up}
+use Rattle.wire_model.specs.{ServerAct, ServerEnd, ServerMovesOn, ServerRun, bytes_sent_down}
+use Rattle.wire_model.specs.{bytes_taken_up}
 
 -- The server, the link, and the bytes that came over it and that the server hasn't taken yet.
 pub record ServerEndSeen (L : Type 0) : Type 0 where

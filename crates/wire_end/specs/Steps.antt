@@ -7,7 +7,7 @@ use Rattle.wire_msg.specs.{Message}
 use Rattle.wire_model.specs.{ClientTakes}
 use Rattle.wire_peer.specs.{ClientSeen, MayTake}
 use Rattle.wire_peer.specs.declared.call_table.ReadyReply.{ReadyReply}
-use Rattle.wire_channels.specs.Owners.{Collects, TakesDown}
+use Rattle.wire_model.specs.Owners.{Collects, TakesDown}
 use Rattle.wire_stream.specs.{Rose}
 use Rattle.wire_stream.specs.declared.inlet.Pulled.{Pulled}
 use Rattle.wire_stream.specs.declared.inlet.Pulled.TheVariants as pulls

@@ -3,7 +3,7 @@
 ghost use Rattle.std.specs.Prelude.{◌≡◌, ◌≢◌, ◌∷◌, ◌++◌, [], ℕ, List, Err, Ok, IfErr, IfOk, OnErr};
 ghost use Rattle.std.specs.Prelude.{None, OnOk, Some, false, length, option_map, slice_get, true};
 ghost use Rattle.std.specs.Io.KnownBytes.{Keeps};
-ghost use Rattle.wire_channels.specs.Owners.{Calls, ClientAct, EndsDown, SendsUp};
+ghost use Rattle.wire_model.specs.Owners.{Calls, ClientAct, EndsDown, SendsUp};
 ghost use Rattle.wire_end.specs.Ends.{EndRuns, FailsAs, HandsOut, IsWaiting, NextEnds, NextLater};
 ghost use Rattle.wire_end.specs.Ends.{StandsAs, new_end};
 ghost use Rattle.wire_end.specs.Records.{record_of};

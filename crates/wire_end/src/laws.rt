@@ -3,16 +3,17 @@
 ghost use Rattle.std.specs.Prelude.{◌≡◌, ◌++◌, [], ℕ, ℤ, List, length, suc};
 ghost use Rattle.wire_peer.specs.{IsLimit, log_of, new_client, new_server};
 ghost use Rattle.wire_peer.specs.declared.log.Logged.{Logged as LoggedBy};
-ghost use Rattle.wire_channels.specs.{AreMade, Arrive, ClientAct, HoldsAlone, Made, OwnersKnow};
-ghost use Rattle.wire_channels.specs.{ServerAct, ServerEnds, ServersGrow, Turn, acts_at, among};
-ghost use Rattle.wire_channels.specs.{deeds_of, first_servers_of, opened, opened_in, server_set};
-ghost use Rattle.wire_channels.specs.{Deed, server_turns, served_turns};
+ghost use Rattle.wire_model.specs.{AreMade, Arrive, ClientAct, Deed, HoldsAlone, Made, OwnersKnow};
+ghost use Rattle.wire_model.specs.{ServerAct, ServerEnds, ServersGrow, Turn, acts_at, among};
+ghost use Rattle.wire_model.specs.{deeds_of, first_servers_of, opened_in, served_turns, server_set};
+ghost use Rattle.wire_model.specs.{server_turns};
+ghost use Rattle.wire_model.specs.Deeds.{opened};
 ghost use Rattle.wire_end.specs.Ends.{EndRuns, EndSeen, first_client, new_end};
 ghost use Rattle.wire_end.specs.OnePair.{AreAnswered, AreInOrder, PairKnows};
 ghost use Rattle.wire_end.specs.ServerEnds.{ServerEndMoves, ServerEndRuns, ServerEndSeen};
 ghost use Rattle.wire_end.specs.ServerEnds.{new_server_end, with_logged};
 
-use wire_channels::laws::a_client_holds_alone;
+use wire_model::pair_laws::a_client_holds_alone;
 use wire_peer::Handler;
 use wire_stream::Link;
 

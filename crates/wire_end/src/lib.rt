@@ -5,12 +5,12 @@
 //! `ServerEnd` receives requests, which wait, answers them in any order, and sends the replies; or
 //! it serves the whole connection, and answers its requests in order. Each of their functions tells
 //! what it did as acts of the owner of a client or of the servers, and which bytes went over the
-//! link for them. So what the laws of wire_channels say of owners holds of a program that keeps an
+//! link for them. So what `wire_model::pair_laws` says of owners holds of a program that keeps an
 //! end.
 //!
-//! Stands on wire_channels and wire_model, and on the code of wire_peer and wire_stream. loopback
-//! and client_examples stand on it. Read first: `client_end` and `specs/Ends.antt`, then
-//! `server_end` and `specs/ServerEnds.antt`, and then `serving` and `specs/Serving.antt`.
+//! Stands on wire_model, and on the code of wire_peer and wire_stream. loopback and client_examples
+//! stand on it. Read first: `client_end` and `specs/Ends.antt`, then `server_end` and
+//! `specs/ServerEnds.antt`, and then `serving` and `specs/Serving.antt`.
 #![tactic(auto)]
 
 mod call_record;

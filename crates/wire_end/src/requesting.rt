@@ -4,9 +4,8 @@ ghost use Rattle.std.specs.Prelude.{◌≡◌, ◌≤◌, ◌++◌, List, IfOk, 
 ghost use Rattle.std.specs.Io.KnownBytes.{Keeps};
 ghost use Rattle.bson_elem.specs.{IsBytes};
 ghost use Rattle.wire_msg.specs.{IsOpen};
-ghost use Rattle.wire_model.specs.{ended_server};
+ghost use Rattle.wire_model.specs.{ServerAct, bytes_taken_up, ended_server};
 ghost use Rattle.wire_peer.specs.declared.server_state.ServerState.TheVariants.{Closed};
-ghost use Rattle.wire_channels.specs.{ServerAct, bytes_taken_up};
 ghost use Rattle.wire_stream.specs.{AddsTurns, CompletesHeader, Turn};
 ghost use Rattle.wire_end.specs.NextRequests.{RequestComes, RequestFails, RequestLater};
 ghost use Rattle.wire_end.specs.NextRequests.{TakesMore};

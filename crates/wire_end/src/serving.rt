@@ -3,7 +3,7 @@
 
 ghost use Rattle.std.specs.Prelude.{◌≡◌, [], List, IfErr, OnOk, ℕ};
 ghost use Rattle.std.specs.Io.KnownBytes.{Keeps};
-ghost use Rattle.wire_channels.specs.{ServerAct};
+ghost use Rattle.wire_model.specs.{ServerAct};
 ghost use Rattle.wire_msg.specs.{Message, SpellsMsg};
 ghost use Rattle.wire_peer.specs.declared.server_state.ServerState.TheVariants.{Open};
 ghost use Rattle.wire_stream.specs.{AddsTurns};

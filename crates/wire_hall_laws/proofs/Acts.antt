@@ -11,11 +11,9 @@ use Rattle.wire_front.specs.declared.cause.FrontState.TheVariants as fronts
 use Rattle.wire_hall.specs.{SeatAct, SeatRun, SeatSeen, Tells, made_by, of_acts, sent_by, taken_by}
 use Rattle.wire_hall.specs.Seats.{IsAnswered, SeatDoes}
 use Rattle.wire_hall.specs.Seats.{Answers, Ends, Fails, Receives, Sends, SetsGate, Takes, Waits}
-use Rattle.wire_model.specs.{AreContents}
-use Rattle.wire_model.proofs.Lemmas.{log_contents}
-use Rattle.wire_channels.specs.{ServerAct, ServerEnd, ServerMovesOn, ServerRun, bytes_sent_down, bytes_taken_up}
-use Rattle.wire_channels.specs.Owners as owners
-use Rattle.wire_channels.proofs.Lemmas.{moves_run, sent_down_on, server_on, taken_up_on}
+use Rattle.wire_model.specs.{AreContents, ServerAct, ServerEnd, ServerMovesOn, ServerRun, bytes_sent_down, bytes_taken_up}
+use Rattle.wire_model.proofs.Lemmas.{log_contents, moves_run, sent_down_on, server_on, taken_up_on}
+use Rattle.wire_model.specs.Owners as owners
 use Rattle.wire_hall_laws.specs.Owning.{IsFed, IsGiven}
 use Rattle.wire_hall_laws.proofs.Fed.{takes, takes_keep}
 use Rattle.wire_hall_laws.proofs.Given.{gives, goes, keeps_out, left}

@@ -1,8 +1,8 @@
 -- What is done with servers alone, among what clients did meanwhile.
 use Rattle.std.proofs.Common.{ℕ, List, [], ◌∷◌}
 use Rattle.wire_peer.specs.{Does, Stops}
-use Rattle.wire_channels.specs.{Made, ServerEnds, ServersGrow, Turn, opened, server_turns}
-use Rattle.wire_channels.specs.Deeds.{AtClient, AtServer, Is, Opens}
+use Rattle.wire_model.specs.{Made, ServerEnds, ServersGrow, Turn, server_turns}
+use Rattle.wire_model.specs.Deeds.{AtClient, AtServer, Is, Opens, opened}
 
 module _ {H : Type 0} (does : Does H) (stops : Stops H) (limit : ℕ) (made : ℕ → Made) where
   -- what was done at the clients meanwhile can be left out

@@ -8,9 +8,9 @@ use Rattle.wire_hall.specs.Halls.{Acts, Closes, Forgets, Opens, Stays}
 use Rattle.std.proofs.lemmas.Option.{none-some}
 use Rattle.wire_hall_laws.specs.Owning.{link_at, links_in}
 use Rattle.wire_model.proofs.Lemmas.{get-push_old, is_elsewhere, is_here, length-slice_set}
-use Rattle.wire_channels.specs.{Deed, ServerAct, Turn, at_server, deeds_of, server_acts_at, server_set}
-use Rattle.wire_channels.specs.Deeds.{AtClient, AtServer, Is}
-use Rattle.wire_channels.specs.Deeds as owners
+use Rattle.wire_model.specs.{Deed, ServerAct, Turn, at_server, deeds_of, server_acts_at, server_set}
+use Rattle.wire_model.specs.Deeds.{AtClient, AtServer, Is}
+use Rattle.wire_model.specs.Deeds as owners
 
 -- ---- acts with a hall
 

@@ -7,12 +7,11 @@ use Rattle.wire_peer.specs.declared.log.Logged.{Logged}
 use Rattle.wire_hall.specs.{HallAct, HallDoes, HallRun, HallSeen, IsNewHall, SeatAct, SeatSeen, SeatServed, SeatTurns, Tells, made_by, new_seat, of_acts, of_turns, received_by, sent_by, taken_by, told_in, turns_of}
 use Rattle.wire_hall.specs.Halls.{Acts, Closes, Forgets, IsActed, IsForgotten, IsOpened, Opens, Stays}
 use Rattle.wire_hall.proofs.Lemmas.{none_served, turns_serve}
-use Rattle.wire_model.specs.{AreContents}
+use Rattle.wire_model.specs.{AreContents, Made, ServerAct, ServerEnd, ServerEnds, ServersGrow, ServersRun, Turn, among, at_server, bytes_sent_down, bytes_taken_up, deeds_of, first_servers_of, server_acts_at, server_at, server_set}
 use Rattle.wire_model.specs.Hostile.{entries_of}
-use Rattle.wire_model.proofs.Lemmas.{get-push_new, length-push, log_contents, same_or_not}
-use Rattle.wire_channels.specs.{Made, ServerAct, ServerEnd, ServerEnds, ServersGrow, ServersRun, Turn, among, at_server, bytes_sent_down, bytes_taken_up, deeds_of, first_servers_of, opened, server_acts_at, server_at, server_set}
-use Rattle.wire_channels.specs.Deeds as owners
-use Rattle.wire_channels.proofs.Lemmas.{grows_on, run_among, run_grows, sent_down_on, server_set-other, server_set-same, taken_up_on}
+use Rattle.wire_model.proofs.Lemmas.{get-push_new, grows_on, length-push, log_contents, run_among, run_grows, same_or_not, sent_down_on, server_set-other, server_set-same, taken_up_on}
+use Rattle.wire_model.specs.Deeds.{opened}
+use Rattle.wire_model.specs.Deeds as owners
 use Rattle.wire_hall_laws.specs.Owning.{HasServer, OwnsServers, all_put_out, link_at, links_in, none_came, none_given}
 use Rattle.wire_hall_laws.proofs.Acts.{Fits, Owned, acts_owned, end_of, same_fits}
 use Rattle.wire_hall_laws.proofs.Places.{at_cases, at_one, at_push, found_or_not, none_past, not_past, one_far, one_here}

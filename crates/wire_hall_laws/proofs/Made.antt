@@ -13,7 +13,7 @@ use Rattle.wire_peer.specs.declared.server_state.AnswerRefusal.{AnswerRefusal}
 use Rattle.wire_peer.specs.declared.server_state.AnswerRefusal.TheVariants as refusals
 use Rattle.wire_peer.proofs.Lemmas.{run_push}
 use Rattle.wire_model.specs.Hostile.{entries_of}
-use Rattle.wire_channels.proofs.Lemmas.{entries_push, entries_skip}
+use Rattle.wire_model.proofs.Lemmas.{entries_push, entries_skip}
 
 module _ {H : Type 0} (does : Does H) (stops : Stops H) where
   -- Entries of connection c that lead the handler from a state into a state, behind any log.

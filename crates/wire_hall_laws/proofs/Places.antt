@@ -4,7 +4,7 @@ use Rattle.std.specs.Prelude.{◌==◌, if◌then◌else◌}
 use Rattle.std.proofs.lemmas.Option.{none-some}
 use Rattle.wire_peer.specs.{ServerView}
 use Rattle.wire_model.proofs.Lemmas.{get-push_cases, get-push_old, is_elsewhere, is_here}
-use Rattle.wire_channels.specs.{server_at}
+use Rattle.wire_model.specs.{server_at}
 
 -- the server of a connection behind one more
 pub at_push : (ss : List ServerView) (d : ℕ) (s x : ServerView) → server_at ss d ≡ Some s → server_at (ss ++ x ∷ []) d ≡ Some s

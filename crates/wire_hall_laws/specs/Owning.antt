@@ -12,9 +12,8 @@ use Rattle.wire_hall.specs.{HallAct, HallSeen, SeatAct, SeatSeen, SeatServed, Te
 use Rattle.wire_hall.specs.{received_by, sent_by, taken_by, told_in, turns_of}
 use Rattle.wire_hall.specs.Halls.{Acts, Closes, Forgets, Opens, Stays}
 use Rattle.wire_model.specs.Hostile.{entries_of}
-use Rattle.wire_channels.specs.{Made, ServerAct, ServerEnds, ServersGrow, Turn, bytes_sent_down}
-use Rattle.wire_channels.specs.{bytes_taken_up, deeds_of, first_servers_of, server_acts_at}
-use Rattle.wire_channels.specs.{server_at}
+use Rattle.wire_model.specs.{Made, ServerAct, ServerEnds, ServersGrow, Turn, bytes_sent_down}
+use Rattle.wire_model.specs.{bytes_taken_up, deeds_of, first_servers_of, server_acts_at, server_at}
 
 -- ---- one connection, in two spellings
 

@@ -1,18 +1,18 @@
 //! The laws of halls. The contract of a function is the law.
 
 ghost use Rattle.std.specs.Prelude.{◌≡◌, Bool, List, [], false, ℕ};
-ghost use Rattle.wire_channels.specs.{AreMade, Arrive, ClientEnd, ClientRun, Made, PairsKnow};
-ghost use Rattle.wire_channels.specs.{Turn, acts_at, deeds_beside, deeds_of, first_end, opened_in};
-ghost use Rattle.wire_channels.specs.{server_turns};
+ghost use Rattle.wire_model.specs.{AreMade, Arrive, ClientEnd, ClientRun, Made, PairsKnow, Turn};
+ghost use Rattle.wire_model.specs.{acts_at, deeds_beside, deeds_of, first_end, opened_in};
+ghost use Rattle.wire_model.specs.{server_turns};
 ghost use Rattle.wire_hall.specs.{HallAct, HallRun, HallSeen, IsNewHall, tells};
 ghost use Rattle.wire_hall_laws.specs.Owning.{OwnsServers};
 
-use wire_channels::laws::{servers_may_come, strangers_disturb_none};
+use wire_model::pair_laws::{servers_may_come, strangers_disturb_none};
 use wire_peer::Handler;
 use wire_stream::Link;
 
 /// Proves that whatever is done with a hall, in any order, and whatever its links do, is what an
-/// owner of servers does who makes them as connections come. So `wire_channels::laws` hold of its
+/// owner of servers does who makes them as connections come. So `wire_model::pair_laws` hold of its
 /// connections, and its log is one run of the handler.
 pub fn halls_own_servers<L: Link, H: Handler>()
     ensures { (made : ℕ → Made) (first : H) (acts : List (HallAct L)) (old new : HallSeen H L)

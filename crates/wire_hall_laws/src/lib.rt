@@ -1,11 +1,11 @@
 //! That a hall is an owner of servers.
 //!
-//! `specs/Owning.antt` says what a hall is to the servers of wire_channels: it makes one for each
+//! `specs/Owning.antt` says what a hall is to the servers of wire_model: it makes one for each
 //! connection, feeds it the messages that the connection's bytes spell, has it answer, and sends
-//! what it gave. So what `wire_channels::laws` says of servers holds of the connections of a hall,
-//! whatever is done with it and whatever their links do.
+//! what it gave. So what `wire_model::pair_laws` says of servers holds of the connections of a
+//! hall, whatever is done with it and whatever their links do.
 //!
-//! Uses wire_hall and wire_channels. Used by no crate: `laws` is for readers. Read first:
+//! Uses wire_hall and wire_model. Used by no crate: `laws` is for readers. Read first:
 //! `specs/Halls.antt` of wire_hall, then `specs/Owning.antt`, and then `laws`.
 #![tactic(auto)]
 

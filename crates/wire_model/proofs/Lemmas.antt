@@ -32,3 +32,15 @@ pub use Rattle.wire_model.proofs.Main.{headline_of}
 pub use Rattle.wire_model.proofs.Promises.{CallOk, Early, Ok, beginnings, done_whole, holds_as, ok_empty, ok_steps, one_call, silent_none}
 pub use Rattle.wire_model.proofs.Quiet.{quiet_of}
 pub use Rattle.wire_model.proofs.Ranks.{lost_at, ours-lost, rank, shows-get_back, shows-map, shows_never}
+-- a run of an owner, and one that goes on from where it ended, are one run
+pub use Rattle.wire_model.proofs.GoingOn.{client_on, sent_on, servers_on, taken_on}
+-- the same of one server, and what it is to the servers that it is one of
+pub use Rattle.wire_model.proofs.OneServer.{grows_on, moves_on, moves_run, one_more, run_among, run_grows, sent_down_on, server_on, taken_up_on}
+-- what the owners know, where the servers come one after the other
+pub use Rattle.wire_model.proofs.ServersCome.{grown, grown_beside, grown_length}
+pub use Rattle.wire_model.proofs.Knows.{know}
+pub use Rattle.wire_model.proofs.PairHeadline.{short_limit}
+-- the entries of one connection
+pub use Rattle.wire_model.proofs.OwnEntries.{entries_push, entries_skip}
+-- the server of one connection, where another one's changes
+pub use Rattle.wire_model.proofs.Fits.{server_set-other, server_set-same}

@@ -1,4 +1,4 @@
-//! The laws of worlds. The contract of each function is the law.
+//! Proves the laws of worlds. The contract of each function is the law.
 
 ghost use Rattle.std.specs.Prelude.{◌≡◌, ℕ, Bool, Err, List, Some};
 ghost use Rattle.wire_model.specs.declared.events.Event.{Event as Happening};

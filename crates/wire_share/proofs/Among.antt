@@ -9,8 +9,8 @@ use Rattle.wire_peer.specs.{LogEntry}
 use Rattle.wire_peer.specs.declared.call_table.ReadyReply.{ReadyReply}
 use Rattle.wire_peer.specs.declared.calls.CallNo.{CallNo}
 use Rattle.wire_model.proofs.Lemmas.{is_here}
-use Rattle.wire_channels.specs.{ClientAct, handed}
-use Rattle.wire_channels.specs.Owners as owners
+use Rattle.wire_model.specs.{ClientAct, handed}
+use Rattle.wire_model.specs.Owners as owners
 use Rattle.wire_share.specs.declared.awaited.Awaited.{Awaited}
 use Rattle.wire_share.specs.Acts.{Answers, AreFit, DownAct, EndsUp, Gives, IsFit, LetsGo, Moves, MovesDown, Passes, PassesOn, SendsUp, ShareAct, TakesUp, act_at, act_of, acts_at, acts_of, with_act}
 use Rattle.wire_share.specs.Sharing.{kind_by}

@@ -13,9 +13,9 @@ use Rattle.wire_peer.specs.declared.calls.CallKind.{CallKind}
 use Rattle.wire_peer.specs.declared.calls.CallNo.{CallNo}
 use Rattle.wire_peer.specs.declared.client_state.ClientCause.{ClientCause}
 use Rattle.wire_peer.specs.declared.client_state.ClientCause.TheVariants.{MoreNotAllowed, StreamBroken, UnknownReply}
-use Rattle.wire_channels.specs.{ClientAct, handed}
-use Rattle.wire_channels.specs.Alone.{Got, Heard, Hearing, Hears, Made, hear, hear_all, replied, silence}
-use Rattle.wire_channels.specs.Owners.{Calls, Collects, EndsDown, SendsUp, TakesDown}
+use Rattle.wire_model.specs.{ClientAct, handed}
+use Rattle.wire_model.specs.Alone.{Got, Heard, Hearing, Hears, Made, hear, hear_all, replied, silence}
+use Rattle.wire_model.specs.Owners.{Calls, Collects, EndsDown, SendsUp, TakesDown}
 use Rattle.wire_share.proofs.Parts.{AllLast, Handed}
 
 -- ---- calls that allow one reply

@@ -7,10 +7,9 @@ use Rattle.wire_msg.specs.declared.payloads.Payload.{Payload}
 use Rattle.wire_peer.specs.declared.call_table.ReadyReply.{ReadyReply}
 use Rattle.wire_peer.specs.declared.calls.CallKind.{CallKind}
 use Rattle.wire_peer.specs.declared.calls.CallNo.{CallNo}
-use Rattle.wire_model.specs.{asked_as}
-use Rattle.wire_channels.specs.{ClientAct, ClientEnd, ClientRun, HoldsAlone, Made, first_end, handed}
-use Rattle.wire_channels.specs.Alone.{HasLast, NoneBehind, NoneTo, parts_to}
-use Rattle.wire_channels.specs.Owners as owners
+use Rattle.wire_model.specs.{ClientAct, ClientEnd, ClientRun, HoldsAlone, Made, asked_as, first_end, handed}
+use Rattle.wire_model.specs.Alone.{HasLast, NoneBehind, NoneTo, parts_to}
+use Rattle.wire_model.specs.Owners as owners
 use Rattle.wire_share.specs.declared.awaited.Awaited.{Awaited}
 use Rattle.wire_share.specs.Acts.{Answers, AreFit, DownAct, DownRun, Gives, Passes, ShareAct, acts_at, acts_of, with_act}
 use Rattle.wire_share.specs.Mixing.{IsAmong, IsReplyTo, IsUnanswered, NeverMixed}

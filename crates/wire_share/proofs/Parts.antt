@@ -4,9 +4,9 @@ use Rattle.std.specs.Prelude.{if◌then◌else◌}
 use Rattle.wire_msg.specs.{Content, Message}
 use Rattle.wire_peer.specs.declared.call_table.ReadyReply.{ReadyReply}
 use Rattle.wire_model.proofs.Lemmas.{is_elsewhere, is_here}
-use Rattle.wire_channels.specs.{ClientAct, handed}
-use Rattle.wire_channels.specs.Alone.{HasLast, NoneBehind, NoneTo, parts_to}
-use Rattle.wire_channels.specs.Owners.{Calls, Collects, EndsDown, SendsUp, TakesDown}
+use Rattle.wire_model.specs.{ClientAct, handed}
+use Rattle.wire_model.specs.Alone.{HasLast, NoneBehind, NoneTo, parts_to}
+use Rattle.wire_model.specs.Owners.{Calls, Collects, EndsDown, SendsUp, TakesDown}
 
 abbrev pub Handed : Type 0
 Handed = ReadyReply × Message

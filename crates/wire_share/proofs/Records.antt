@@ -13,10 +13,9 @@ use Rattle.wire_peer.specs.declared.call_table.ReadyReply.{ReadyReply}
 use Rattle.wire_peer.specs.declared.calls.CallKind.{CallKind}
 use Rattle.wire_peer.specs.declared.calls.CallNo.{CallNo}
 use Rattle.wire_peer.specs.declared.client_state.ClientCause.{ClientCause}
-use Rattle.wire_model.specs.{ClientTakes, Record, asked_as, given_record, lost_record, new_record, put_part}
+use Rattle.wire_model.specs.{ClientAct, ClientDoes, ClientEnd, ClientRun, ClientTakes, Record, asked_as, given_record, lost_record, new_record, put_part}
 use Rattle.wire_model.proofs.Lemmas.{get-map, get-push_new, get-push_old, get-set_other, get-set_same, length-push, length-slice_set, same_or_not}
-use Rattle.wire_channels.specs.{ClientAct, ClientDoes, ClientEnd, ClientRun}
-use Rattle.wire_channels.specs.Owners.{Calls, Collects, EndsDown, SendsUp, TakesDown}
+use Rattle.wire_model.specs.Owners.{Calls, Collects, EndsDown, SendsUp, TakesDown}
 
 -- call n, which is one of this connection, asked this
 abbrev pub Has : ℕ → List Record → ℕ → Asked → Type 0

@@ -6,7 +6,7 @@ use Rattle.wire_msg.specs.{Message}
 use Rattle.wire_peer.specs.{Does, IsLimit, LogEntry, Stops}
 use Rattle.wire_peer.specs.declared.call_table.ReadyReply.{ReadyReply}
 use Rattle.wire_model.specs.Machines.{Answered, Mute, Never, OnWay, Place, Waiting}
-use Rattle.wire_channels.specs.{AreMade, ClientEnd, Deed, Made, OwnersKnow, ServerEnds}
+use Rattle.wire_model.specs.{AreMade, ClientEnd, Deed, Made, OwnersKnow, ServerEnds}
 use Rattle.wire_share.specs.Acts.{Gives, ShareAct}
 use Rattle.wire_share.specs.Mixing.{AnswersAreTheServers, IsAmong, IsEntryOf, IsMadeSo, IsReplyTo, NeverMixed}
 

@@ -5,8 +5,7 @@ use Rattle.wire_msg.specs.declared.payloads.Payload.{Payload}
 use Rattle.wire_peer.specs.{LogEntry}
 use Rattle.wire_peer.specs.declared.call_table.ReadyReply.{ReadyReply}
 use Rattle.wire_peer.specs.declared.calls.CallNo.{CallNo}
-use Rattle.wire_model.specs.{Done, Record}
-use Rattle.wire_channels.specs.{ClientEnd, Made}
+use Rattle.wire_model.specs.{ClientEnd, Done, Made, Record}
 use Rattle.wire_share.specs.Acts.{Gives, Passes, ShareAct}
 
 -- the act is one of them

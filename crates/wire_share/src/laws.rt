@@ -3,15 +3,15 @@
 ghost use Rattle.std.specs.Prelude.{◌≡◌, [], List, ℕ};
 ghost use Rattle.bson_elem.specs.{IsBytes};
 ghost use Rattle.wire_peer.specs.{IsLimit};
-ghost use Rattle.wire_channels.specs.{Arrive, ClientEnd, ClientRun, Deed, Made, ServerEnds};
-ghost use Rattle.wire_channels.specs.{ServersRun, bytes_taken, first_end, servers_with_limits};
-ghost use Rattle.wire_channels.specs.Deeds as at_ends;
+ghost use Rattle.wire_model.specs.{Arrive, ClientEnd, ClientRun, Deed, Made, ServerEnds};
+ghost use Rattle.wire_model.specs.{ServersRun, bytes_taken, first_end, servers_with_limits};
+ghost use Rattle.wire_model.specs.Deeds as at_ends;
 ghost use Rattle.wire_share.specs.Acts.{AreFit, DownAct, DownRun, ShareAct, acts_at, acts_of};
 ghost use Rattle.wire_share.specs.Answering.{IsAnswered};
 ghost use Rattle.wire_share.specs.Mixing.{AnswersAreTheServers, IsMadeSo, NeverMixed};
 ghost use Rattle.wire_share.specs.Sharing.{DownSeen, new_downstream};
 
-use wire_channels::laws::{a_client_holds_alone, limits_may_differ};
+use wire_model::pair_laws::{a_client_holds_alone, limits_may_differ};
 use wire_peer::Handler;
 
 /// Proves that answers are never mixed, whatever is done with any downstreams and upstreams, and

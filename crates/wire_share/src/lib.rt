@@ -9,7 +9,7 @@
 //! the request's own payload, and no two requests get one answer; and that each connection's
 //! requests are answered in order, each once.
 //!
-//! Uses wire_front, wire_peer, wire_hall and wire_channels. Read first: `specs/Sharing.antt`, then
+//! Uses wire_front, wire_peer, wire_hall and wire_model. Read first: `specs/Sharing.antt`, then
 //! `downstream`, and then `laws`.
 #![tactic(auto)]
 

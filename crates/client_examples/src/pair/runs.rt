@@ -10,7 +10,7 @@ use bson_doc::{Bson, RawDocumentBuf};
 use rand_core::utils::NextWord;
 use rand_pcg::Pcg32;
 use std::alloc::{AllocError, Global};
-use wire_channels::laws::channels_hold;
+use wire_model::pair_laws::channels_hold;
 use wire_msg::PayloadBuf;
 use wire_peer::{CallKind, Handler};
 

@@ -1,7 +1,7 @@
 //! One way of the connection: bytes in flight.
 
 ghost use Rattle.std.specs.Prelude.{◌≡◌, ◌≤◌, ◌++◌, ℕ, [], List, None, OnOk, drop, length};
-ghost use Rattle.wire_channels.specs.Channels.{Comes, IsCut, fewer, idle_way, put_in};
+ghost use Rattle.wire_model.specs.Channels.{Comes, IsCut, fewer, idle_way, put_in};
 
 use std::alloc::{AllocError, Global};
 use std::marker::Model;
@@ -14,7 +14,7 @@ pub(crate) struct Way {
 }
 
 impl Model for Way {
-    ghost use Rattle.wire_channels.specs.Channels.{Way as Flight};
+    ghost use Rattle.wire_model.specs.Channels.{Way as Flight};
 
     ghost Value = { Flight };
 

@@ -5,7 +5,7 @@ use Rattle.wire_model.specs.{Record}
 use Rattle.wire_model.proofs.Lemmas.{get-map}
 use Rattle.wire_peer.specs.{buf_content}
 use Rattle.wire_peer.proofs.Lemmas.{of_buf_content}
-use Rattle.wire_channels.specs.Owners.{Calls, SendsUp}
+use Rattle.wire_model.specs.Owners.{Calls, SendsUp}
 use Rattle.wire_peer.specs.declared.calls.CallKind.TheVariants.{Plain}
 use Rattle.wire_end.specs.{record_of}
 use Rattle.wire_end.proofs.Lemmas.{runs_on}

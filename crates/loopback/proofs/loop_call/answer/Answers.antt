@@ -1,5 +1,5 @@
 use Rattle.std.proofs.Common.{◌∷◌, []}
-use Rattle.wire_channels.specs.Owners.{SendsDown}
+use Rattle.wire_model.specs.Owners.{SendsDown}
 use Rattle.wire_end.proofs.Lemmas.{end_runs_on, moves_runs}
 use Rattle.loopback.specs.Loopback.{echo_does, echo_stops}
 use Rattle.loopback.proofs.LoopLemmas.{on_any}

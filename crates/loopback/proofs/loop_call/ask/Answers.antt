@@ -1,5 +1,5 @@
 use Rattle.std.proofs.Common.{◌∷◌, []}
-use Rattle.wire_channels.specs.Owners.{Calls, SendsUp}
+use Rattle.wire_model.specs.Owners.{Calls, SendsUp}
 use Rattle.wire_peer.specs.declared.calls.CallKind.TheVariants.{Plain}
 use Rattle.wire_end.proofs.Lemmas.{runs_on}
 use Rattle.loopback.proofs.loop_call.ask.Goals as goal

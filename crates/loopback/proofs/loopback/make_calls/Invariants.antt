@@ -1,6 +1,6 @@
 use Rattle.std.specs.Io.KnownBytes.{Appends}
 use Rattle.std.proofs.Common.{List}
-use Rattle.wire_channels.specs.{ClientAct, ServerAct}
+use Rattle.wire_model.specs.{ClientAct, ServerAct}
 use Rattle.wire_end.specs.{EndRuns, ServerEndRuns}
 use Rattle.loopback.specs.Calling.{AreComplete}
 use Rattle.loopback.specs.Loopback.{AppendsUpTo, call_lines, echo_does, echo_stops, loop_text, requests_bytes}

@@ -1,7 +1,7 @@
 use Rattle.std.proofs.Common.{List, length, subst, suc, sym}
 use Rattle.wire_peer.specs.{LogEntry, log_of, new_server}
-use Rattle.wire_channels.specs.{ServerRun}
-use Rattle.wire_channels.proofs.Lemmas.{one_more}
+use Rattle.wire_model.specs.{ServerRun}
+use Rattle.wire_model.proofs.Lemmas.{one_more}
 use Rattle.wire_end.specs.ServerEnds.{with_logged}
 use Rattle.wire_end.proofs.laws.one_more_is_served.Goals as goal
 

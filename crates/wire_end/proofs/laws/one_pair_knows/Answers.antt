@@ -1,7 +1,7 @@
 use Rattle.std.proofs.Common.{List, subst}
 use Rattle.wire_peer.specs.{LogEntry, new_server}
-use Rattle.wire_channels.specs.{ServerRun}
-use Rattle.wire_channels.proofs.Lemmas.{short_limit}
+use Rattle.wire_model.specs.{ServerRun}
+use Rattle.wire_model.proofs.Lemmas.{short_limit}
 use Rattle.wire_end.specs.ServerEnds.{with_logged}
 use Rattle.wire_end.proofs.OnePair.{are_answered, pair_knows}
 use Rattle.wire_end.proofs.laws.one_pair_knows.Goals as goal

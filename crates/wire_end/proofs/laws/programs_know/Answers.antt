@@ -1,5 +1,5 @@
-use Rattle.wire_channels.specs.{deeds_of, first_servers_of, opened_in}
-use Rattle.wire_channels.proofs.Lemmas.{grown, grown_beside, know, short_limit}
+use Rattle.wire_model.specs.{deeds_of, first_servers_of, opened_in}
+use Rattle.wire_model.proofs.Lemmas.{grown, grown_beside, know, short_limit}
 use Rattle.wire_end.proofs.laws.programs_know.Goals as goal
 
 pub returns : goal.returns

@@ -1,6 +1,6 @@
 use Rattle.std.proofs.Common.{List, ◌≤◌, subst, sym, arith}
-use Rattle.wire_channels.specs.{ServersGrow, Turn, deeds_of, first_servers_of, opened_in}
-use Rattle.wire_channels.proofs.Lemmas.{grown_beside}
+use Rattle.wire_model.specs.{ServersGrow, Turn, deeds_of, first_servers_of, opened_in}
+use Rattle.wire_model.proofs.Lemmas.{grown_beside}
 use Rattle.wire_hall_laws.proofs.Beside.{grown_alone}
 use Rattle.wire_hall_laws.proofs.laws.clients_know.Goals as goal
 

@@ -1,5 +1,5 @@
 use Rattle.std.proofs.Common.{List, sym, subst}
-use Rattle.wire_channels.specs.{ClientAct, ClientRun, first_end}
+use Rattle.wire_model.specs.{ClientAct, ClientRun, first_end}
 use Rattle.wire_share.proofs.Servers.{answers_are, are_made, limit_is}
 use Rattle.wire_share.proofs.laws.each_answer_is_the_servers.Goals as goal
 

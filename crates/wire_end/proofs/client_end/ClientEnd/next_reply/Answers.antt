@@ -1,7 +1,7 @@
 use Rattle.std.proofs.Common.{◌∙◌, ◌∷◌, [], ap, subst}
 use Rattle.std.specs.Prelude.{Ok}
 use Rattle.std.proofs.lemmas.Result.{err_from_is_err_and}
-use Rattle.wire_channels.specs.Owners.{EndsDown}
+use Rattle.wire_model.specs.Owners.{EndsDown}
 use Rattle.wire_end.specs.Ends.{EndRuns, EndSeen}
 use Rattle.wire_end.specs.Steps.{CollectsAs}
 use Rattle.wire_end.proofs.Closing.{ends_told, ends_untold}

@@ -1,5 +1,5 @@
 use Rattle.std.proofs.Common.{◌∙◌, ◌∷◌, [], ap, refl, sym}
-use Rattle.wire_channels.specs.{ClientEnd}
+use Rattle.wire_model.specs.{ClientEnd}
 use Rattle.wire_peer.specs.{ClientSeen}
 use Rattle.wire_end.specs.Records.{records_of}
 use Rattle.wire_end.proofs.Runs.{no_acts, taken_runs}

@@ -1,5 +1,0 @@
-use Rattle.wire_channels.proofs.Alone.{alone}
-use Rattle.wire_channels.proofs.laws.a_client_holds_alone.Goals as goal
-
-pub returns : goal.returns
-returns c = λ c limit window first_id acts new are run. alone limit c first_id window acts new are run

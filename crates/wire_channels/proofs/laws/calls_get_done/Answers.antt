@@ -1,6 +1,0 @@
-use Rattle.wire_channels.proofs.Main.{short_limit}
-use Rattle.wire_channels.proofs.Witness.{get_done}
-use Rattle.wire_channels.proofs.laws.calls_get_done.Goals as goal
-
-pub returns : goal.returns
-returns c = λ limit payload is le. get_done limit (short_limit limit is) payload le

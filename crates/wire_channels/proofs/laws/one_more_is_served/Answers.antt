@@ -1,5 +1,0 @@
-use Rattle.wire_channels.proofs.OneServer.{one_more}
-use Rattle.wire_channels.proofs.laws.one_more_is_served.Goals as goal
-
-pub returns : goal.returns
-returns g c = λ limit made turns acts old mid new grown run. one_more g.H.Handler.does g.H.Handler.stops limit made turns acts old mid new grown run

@@ -1,5 +1,0 @@
-use Rattle.wire_channels.proofs.GoingOn.{client_on, sent_on, taken_on}
-use Rattle.wire_channels.proofs.laws.runs_go_on.Goals as goal
-
-pub returns : goal.returns
-returns c = λ c acts more old mid new run on. (client_on c acts more old mid new run on, sent_on acts more, taken_on acts more)

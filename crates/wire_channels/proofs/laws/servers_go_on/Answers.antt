@@ -1,5 +1,0 @@
-use Rattle.wire_channels.proofs.GoingOn.{servers_on}
-use Rattle.wire_channels.proofs.laws.servers_go_on.Goals as goal
-
-pub returns : goal.returns
-returns g c = λ deeds more old mid new run on. servers_on g.H.Handler.does g.H.Handler.stops deeds more old mid new run on

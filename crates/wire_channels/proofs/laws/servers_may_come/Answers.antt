@@ -1,5 +1,0 @@
-use Rattle.wire_channels.proofs.Grows.{grown}
-use Rattle.wire_channels.proofs.laws.servers_may_come.Goals as goal
-
-pub returns : goal.returns
-returns g c = λ limit first made turns new run. grown _ g.H.Handler.does g.H.Handler.stops limit made first turns new run

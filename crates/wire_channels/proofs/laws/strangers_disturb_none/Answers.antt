@@ -1,6 +1,0 @@
-use Rattle.wire_channels.proofs.Beside.{beside}
-use Rattle.wire_channels.proofs.Main.{short_limit}
-use Rattle.wire_channels.proofs.laws.strangers_disturb_none.Goals as goal
-
-pub returns : goal.returns
-returns g c = λ limit k first made strange deeds ends servers is good runs served arrive. beside _ g.H.Handler.does g.H.Handler.stops strange limit (short_limit limit is) first made good k deeds ends servers runs served arrive

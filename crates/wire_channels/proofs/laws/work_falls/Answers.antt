@@ -1,6 +1,0 @@
-use Rattle.wire_channels.proofs.Main.{short_limit}
-use Rattle.wire_channels.proofs.Work.{falls}
-use Rattle.wire_channels.proofs.laws.work_falls.Goals as goal
-
-pub returns : goal.returns
-returns g c = λ limit first s s' d p is trace at step work. falls _ g.H.Handler.does g.H.Handler.stops limit (short_limit limit is) first s trace s' d p at step work
