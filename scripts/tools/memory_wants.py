@@ -11,7 +11,7 @@ import re
 ROOT = pathlib.Path(__file__).resolve().parents[2]
 LIBRARIES = sorted(path.parent.parent.name for path in ROOT.glob("crates/*/src/lib.rt"))
 
-OWNED = {"Vec", "VecDeque", "String", "Box", "IndexMap", "IndexSet", "Global"}
+OWNED = {"Vec", "VecDeque", "String", "Box", "Rc", "IndexMap", "IndexSet", "Global"}
 WANTS = {"AllocError", "AllocFailed"}
 WANT_VARIANTS = {"OutOfMemory", "NoMemory"}
 
@@ -83,9 +83,9 @@ class Sources:
         self.heads = []
         for crate in LIBRARIES:
             self.read_crate(crate)
-        self.keepers = self.closed(OWNED, self.fields)
-        wanting = {name for name, variants in self.variants.items() if variants & WANT_VARIANTS}
-        self.wanting = self.closed(WANTS | wanting, {name: self.fields[name] for name in self.variants})
+        self.keepers = self.closed(OWNED, set(), self.fields)
+        wanting = {enum for enum, variants in self.variants.items() if variants & WANT_VARIANTS}
+        self.wanting = self.closed(WANTS, wanting, {enum: self.fields[enum] for enum in self.variants})
         self.calls = {call.name: call for call in self.heads if self.may_want(call)}
 
     def read_crate(self, crate):
@@ -95,17 +95,17 @@ class Sources:
         public = words_of(" ".join(re.findall(r"^pub use \w+::(\{[^}]*\}|\w+);", lib, re.M)))
         for path in sorted(source.rglob("*.rt")):
             for first, lines in blocks(code_of(path)):
-                self.read_type(first, lines)
+                self.read_type(crate, first, lines)
                 self.read_functions(crate, path.stem, open_modules, public, first, lines)
 
-    def read_type(self, first, lines):
+    def read_type(self, crate, first, lines):
         found = re.match(r"(?:pub(?:\(crate\))? )?(struct|enum) (\w+)", first)
         if found:
             body = BORROWED.sub("", "\n".join(lines).partition(found[2])[2])
-            self.fields[found[2]] = body
+            self.fields[crate, found[2]] = body
             if found[1] == "enum":
-                self.variants[found[2]] = set(re.findall(r"^    (\w+)", body, re.M))
-                self.fields[found[2]] = re.sub(r"^    \w+", "", body, flags=re.M)
+                self.variants[crate, found[2]] = set(re.findall(r"^    (\w+)", body, re.M))
+                self.fields[crate, found[2]] = re.sub(r"^    \w+", "", body, flags=re.M)
 
     def read_functions(self, crate, module, open_modules, public, first, lines):
         path = module if module in open_modules else ""
@@ -120,15 +120,27 @@ class Sources:
                 if is_public or found[1]:
                     self.heads.append(Call(crate, path, found[2], name, head))
 
-    @staticmethod
-    def closed(first, bodies):
-        """Returns the names of `first`, and each whose body names one of these, at whatever depth."""
-        names = set(first)
+    def types_of(self, crate, text):
+        """Returns the types that a text of a crate names, each with its crate: the crate's own, where it has one of the name."""
+        words = words_of(text)
+        own = {(crate, word) for word in words if (crate, word) in self.fields}
+        others = words - {word for _, word in own}
+        return own | {it for it in self.fields if it[1] in others}
+
+    def closed(self, names, first, bodies):
+        """Returns the types of `first`, those whose bodies name one of `names`, and each whose body names one of these, at whatever depth."""
+        found = first | {it for it, body in bodies.items() if words_of(body) & names}
+        named = {it: self.types_of(it[0], body) for it, body in bodies.items()}
         while True:
-            more = {name for name, body in bodies.items() if name not in names and words_of(body) & names}
+            more = {it for it in bodies if it not in found and named[it] & found}
             if not more:
-                return names
-            names |= more
+                return found
+            found |= more
+
+    def is_wanting(self, call):
+        """Returns true if the result of the call can answer that memory ran out."""
+        crate = call.name.split("::", maxsplit=1)[0]
+        return bool(words_of(call.result) & WANTS or self.types_of(crate, call.result) & self.wanting)
 
     def of_crate(self, crate):
         """Returns the public calls of a crate."""
@@ -138,13 +150,13 @@ class Sources:
         """Returns true if the call takes an allocator, or can answer that memory ran out."""
         takes = words_of(call.head) & {"Global", "AllocGlobal"}
         # A refusal that is made of another one tells that memory ran out, and takes none.
-        answers = words_of(call.result) & self.wanting and call.function != "from"
+        answers = self.is_wanting(call) and call.function != "from"
         return bool(takes or answers)
 
     def may_want(self, call):
         """Returns true if the call may want memory, by its head and its type's fields."""
-        return self.says_want(call) or call.owner in self.keepers
+        return self.says_want(call) or (call.name.split("::", maxsplit=1)[0], call.owner) in self.keepers
 
     def can_answer_want(self, call):
         """Returns true if the call may err as memory ran out."""
-        return call.result.strip().startswith("Result") and bool(words_of(call.result) & self.wanting)
+        return call.result.strip().startswith("Result") and self.is_wanting(call)
