@@ -4,12 +4,12 @@ use Rattle.std.specs.Prelude.{◌⊎◌, OnOk, flat_map, min}
 use Rattle.std.specs.Io.KnownBytes.{Appends, Keeps}
 use Rattle.std.proofs.KnownBytes.{Appends-trans}
 use Rattle.slab.specs.Slab.{Slab, Updates, get}
-use Rattle.wire_hall.specs.{IsGated, IsTurned, SeatSeen, Tells, new_seat}
-use Rattle.wire_hall.specs.declared.turned.Leave.{Leave}
-use Rattle.wire_hall.specs.declared.turned.Turned.{Turned}
-use Rattle.wire_hall.specs.declared.turned.Turned.TheVariants as turns
-use Rattle.wire_hall.specs.declared.valve.Gate.{Gate}
-use Rattle.wire_hall.specs.declared.valve.Gate.TheVariants as gates
+use Rattle.wire_serve.specs.{IsGated, IsTurned, SeatSeen, Tells, new_seat}
+use Rattle.wire_serve.specs.declared.turned.Leave.{Leave}
+use Rattle.wire_serve.specs.declared.turned.Turned.{Turned}
+use Rattle.wire_serve.specs.declared.turned.Turned.TheVariants as turns
+use Rattle.wire_serve.specs.declared.valve.Gate.{Gate}
+use Rattle.wire_serve.specs.declared.valve.Gate.TheVariants as gates
 use Rattle.wire_peer.specs.{Does, Stops, log_of}
 use Rattle.wire_peer.specs.declared.log.Logged.{Logged}
 use Rattle.test_script.specs.{RuleView}

@@ -13,8 +13,8 @@ use Rattle.test_script.specs.declared.fault.Cause.TheVariants as causes
 use Rattle.test_script.specs.declared.fault.ScriptFault.{ScriptFault}
 use Rattle.test_script.specs.declared.scripted.Scripted.{Scripted}
 use Rattle.test_store.specs.declared.store.Store.{Store}
-use Rattle.wire_hall.specs.{Tells, tells}
-use Rattle.wire_hall.specs.declared.valve.Valve.{Valve}
+use Rattle.wire_serve.specs.{Tells, tells}
+use Rattle.wire_serve.specs.declared.valve.Valve.{Valve}
 use Rattle.wire_stream.specs.declared.tcp_link.TcpLink.{TcpLink}
 use Rattle.bsonserver.specs.declared.choice.Choice.{Choice}
 use Rattle.bsonserver.specs.declared.edge_triggered.EdgeTriggered.{EdgeTriggered}

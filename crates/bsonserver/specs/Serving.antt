@@ -5,14 +5,14 @@ use Rattle.std.specs.Io.KnownBytes.{Appends}
 use Rattle.slab.specs.Slab.{Slab, Updates, get}
 use Rattle.test_script.specs.declared.action.Flow.{Flow}
 use Rattle.test_script.specs.{RuleView}
-use Rattle.wire_front.specs.declared.cause.FrontCause.TheVariants as fronts
-use Rattle.wire_hall.specs.{IsGated, IsTurned, SeatSeen, Tells, new_seat}
-use Rattle.wire_hall.specs.declared.turned.Leave.{Leave}
-use Rattle.wire_hall.specs.declared.turned.Leave.TheVariants as leaves
-use Rattle.wire_hall.specs.declared.turned.Turned.{Turned}
-use Rattle.wire_hall.specs.declared.turned.Turned.TheVariants as turns
-use Rattle.wire_hall.specs.declared.valve.Gate.{Gate}
-use Rattle.wire_hall.specs.declared.valve.Gate.TheVariants as gates
+use Rattle.wire_serve.specs.declared.cause.FrontCause.TheVariants as fronts
+use Rattle.wire_serve.specs.{IsGated, IsTurned, SeatSeen, Tells, new_seat}
+use Rattle.wire_serve.specs.declared.turned.Leave.{Leave}
+use Rattle.wire_serve.specs.declared.turned.Leave.TheVariants as leaves
+use Rattle.wire_serve.specs.declared.turned.Turned.{Turned}
+use Rattle.wire_serve.specs.declared.turned.Turned.TheVariants as turns
+use Rattle.wire_serve.specs.declared.valve.Gate.{Gate}
+use Rattle.wire_serve.specs.declared.valve.Gate.TheVariants as gates
 use Rattle.wire_peer.specs.{Does, Stops, log_of}
 use Rattle.wire_peer.specs.declared.log.Logged.{Logged}
 use Rattle.wire_peer.specs.declared.server_state.ServerCause.TheVariants as causes

@@ -6,10 +6,10 @@ use Rattle.bson_text.specs.{document_text, quoted}
 use Rattle.wire_msg.specs.{Content, fault_text}
 use Rattle.wire_text.specs.{text_of_sequence}
 use Rattle.wire_text.specs.declared.messages.Detail.TheVariants.{Line}
-use Rattle.wire_front.specs.declared.cause.FrontCause.{FrontCause}
-use Rattle.wire_front.specs.declared.cause.FrontCause.TheVariants as fronts
-use Rattle.wire_hall.specs.declared.turned.Leave.{Leave}
-use Rattle.wire_hall.specs.declared.turned.Leave.TheVariants as leaves
+use Rattle.wire_serve.specs.declared.cause.FrontCause.{FrontCause}
+use Rattle.wire_serve.specs.declared.cause.FrontCause.TheVariants as fronts
+use Rattle.wire_serve.specs.declared.turned.Leave.{Leave}
+use Rattle.wire_serve.specs.declared.turned.Leave.TheVariants as leaves
 use Rattle.wire_peer.specs.declared.server_state.ServerCause.{ServerCause}
 use Rattle.wire_peer.specs.declared.server_state.ServerCause.TheVariants as causes
 use Rattle.wire_query.specs.{query_fault_text}

@@ -18,7 +18,7 @@ use std::io::Write;
 use std::time::Clock;
 use test_script::{Flow, Scripted};
 use test_store::Store;
-use wire_hall::{Turned, Valve};
+use wire_serve::{Turned, Valve};
 use wire_stream::TcpLink;
 
 /// The connections of the program: over sockets, by the rules of a script before a store.

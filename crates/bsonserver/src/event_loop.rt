@@ -3,7 +3,7 @@
 
 ghost use Rattle.std.specs.Prelude.{◌≡◌, Some};
 ghost use Rattle.bsonserver.specs.Serving.{settled};
-ghost use Rattle.wire_hall.specs.declared.turned.Leave.{Leave};
+ghost use Rattle.wire_serve.specs.declared.turned.Leave.{Leave};
 
 use crate::edge_triggered::{EdgeTriggered, Turns};
 use crate::serving::settle;
@@ -14,7 +14,7 @@ use mio::{Events, Registry};
 use sockets::{Acceptor, Delays, Due};
 use std::alloc::{AllocError, Global};
 use std::time::Clock;
-use wire_hall::Turned;
+use wire_serve::Turned;
 
 /// The most connections that are open at once. More of them wait at the listener.
 pub const ROOM: usize = 1024;

@@ -14,7 +14,7 @@
 //! failed, and 4 if memory ran out. Where no connection can be accepted, as where no open file is
 //! left, standard error says so, and it tries again until one can.
 //!
-//! Uses test_store, test_script, command_parts, wire_hall, wire_text, sockets and command_words.
+//! Uses test_store, test_script, command_parts, wire_serve, wire_text, sockets and command_words.
 //! Read first: `serving`, `connections` and then `run`.
 #![tactic(auto)]
 

@@ -7,8 +7,8 @@ ghost use Rattle.bsonserver.specs.Replies.{Follows, gate_for};
 
 use std::alloc::{AllocError, Global};
 use test_script::{Flow, Script};
-use wire_hall::Gate;
 use wire_peer::Entry;
+use wire_serve::Gate;
 
 /// The rules of a script as they stand after the requests that were told, and what becomes of the
 /// reply to the last one.

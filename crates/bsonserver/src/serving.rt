@@ -5,7 +5,7 @@ ghost use Rattle.std.specs.Prelude.{flat_map, min};
 ghost use Rattle.slab.specs.Slab.{Updates, get, slab_len};
 ghost use Rattle.std.specs.Io.KnownBytes.{Keeps};
 ghost use Rattle.text_writer.specs.{WritesOut};
-ghost use Rattle.wire_hall.specs.{SeatSeen, tells};
+ghost use Rattle.wire_serve.specs.{SeatSeen, tells};
 ghost use Rattle.wire_peer.specs.{log_of};
 ghost use Rattle.bsonserver.specs.Serving.{IsServing, IsSteered, IsStepped, ServesOn, TakesTurn};
 ghost use Rattle.bsonserver.specs.Serving.{gate_after, reply_flow, settled};
@@ -18,9 +18,8 @@ use crate::transcript::{write_end, write_entries, write_new};
 use std::alloc::Global;
 use std::io::Write;
 use test_script::Flow;
-use wire_front::FrontCause;
-use wire_hall::{Gate, Gated, Hall, Leave, Turned};
 use wire_peer::{Handler, ServerCause};
+use wire_serve::{FrontCause, Gate, Gated, Hall, Leave, Turned};
 use wire_stream::Link;
 
 /// The most steps of a turn.

@@ -13,10 +13,9 @@ use bson_text::{dump_to, quoted_to};
 use command_parts::name_of;
 use std::io;
 use std::io::Write;
-use wire_front::FrontCause;
-use wire_hall::Leave;
 use wire_msg::{Payload, PayloadBuf};
 use wire_peer::{Entry, Outcome, ServerCause};
+use wire_serve::{FrontCause, Leave};
 use wire_text::{Detail, write_sequences};
 
 /// Writes the text of a body, and the line of each sequence.

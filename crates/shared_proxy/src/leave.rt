@@ -4,9 +4,9 @@ use proxy::Direction;
 use sockets::IoFailure;
 use std::fmt;
 use std::io::ErrorKind;
-use wire_front::{FrontCause, FrontState};
 use wire_peer::{CallRefusal, ClientCause, ClientState, ServerCause};
 use wire_relay::RelayFault;
+use wire_serve::{FrontCause, FrontState};
 use wire_stream::LinkFault;
 
 /// Why a connection is over.

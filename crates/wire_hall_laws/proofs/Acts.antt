@@ -4,13 +4,11 @@ use Rattle.wire_peer.specs.{AnswerStep, Does, LogEntry, ServerView, Stops, log_o
 use Rattle.wire_peer.specs.declared.log.Logged.{Logged}
 use Rattle.wire_peer.specs.declared.server_state.AnswerRefusal.{AnswerRefusal}
 use Rattle.wire_peer.specs.declared.server_state.AnswerRefusal.TheVariants as refusals
-use Rattle.wire_front.specs.{FrontTakes, FrontView, IsReady, ended_front, state_of}
-use Rattle.wire_front.specs.Fronts.{PutsOut, ended_by, refused, respelled, with_server}
-use Rattle.wire_front.specs.declared.cause.FrontState.{FrontState}
-use Rattle.wire_front.specs.declared.cause.FrontState.TheVariants as fronts
-use Rattle.wire_hall.specs.{SeatAct, SeatRun, SeatSeen, Tells, made_by, of_acts, sent_by, taken_by}
-use Rattle.wire_hall.specs.Seats.{IsAnswered, SeatDoes}
-use Rattle.wire_hall.specs.Seats.{Answers, Ends, Fails, Receives, Sends, SetsGate, Takes, Waits}
+use Rattle.wire_serve.specs.{FrontTakes, FrontView, IsReady, SeatAct, SeatRun, SeatSeen, Tells, ended_front, made_by, of_acts, sent_by, state_of, taken_by}
+use Rattle.wire_serve.specs.Fronts.{PutsOut, ended_by, refused, respelled, with_server}
+use Rattle.wire_serve.specs.declared.cause.FrontState.{FrontState}
+use Rattle.wire_serve.specs.declared.cause.FrontState.TheVariants as fronts
+use Rattle.wire_serve.specs.Seats.{Answers, Ends, Fails, IsAnswered, Receives, SeatDoes, Sends, SetsGate, Takes, Waits}
 use Rattle.wire_model.specs.{AreContents, ServerAct, ServerEnd, ServerMovesOn, ServerRun, bytes_sent_down, bytes_taken_up}
 use Rattle.wire_model.proofs.Lemmas.{log_contents, moves_run, sent_down_on, server_on, taken_up_on}
 use Rattle.wire_model.specs.Owners as owners

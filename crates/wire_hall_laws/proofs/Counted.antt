@@ -3,8 +3,8 @@ use Rattle.std.proofs.Common.{◌≡◌, ℕ, zero, suc, Bool, true, false, List
 use Rattle.std.specs.Prelude.{◌==◌, if◌then◌else◌}
 use Rattle.wire_peer.specs.{Does, LogEntry, ServerView, Stops}
 use Rattle.wire_peer.specs.declared.log.Logged.{Logged}
-use Rattle.wire_hall.specs.{HallAct, SeatAct, SeatRun, SeatSeen, SeatTurns, Tells, of_acts, of_turns, told_in, turns_of}
-use Rattle.wire_hall.specs.Halls.{Acts, Closes, Forgets, Opens, Stays}
+use Rattle.wire_serve.specs.{HallAct, SeatAct, SeatRun, SeatSeen, SeatTurns, Tells, of_acts, of_turns, told_in, turns_of}
+use Rattle.wire_serve.specs.Halls.{Acts, Closes, Forgets, Opens, Stays}
 use Rattle.std.proofs.lemmas.Option.{none-some}
 use Rattle.wire_hall_laws.specs.Owning.{link_at, links_in}
 use Rattle.wire_model.proofs.Lemmas.{get-push_old, is_elsewhere, is_here, length-slice_set}

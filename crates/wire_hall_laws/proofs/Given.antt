@@ -6,9 +6,9 @@ use Rattle.wire_peer.specs.{AnswerStep, Does, LogEntry, ServerView, Stops, Waits
 use Rattle.wire_peer.specs.Chains.{ReplyState}
 use Rattle.wire_peer.specs.declared.server_state.AnswerRefusal.{AnswerRefusal}
 use Rattle.wire_peer.specs.declared.server_state.AnswerRefusal.TheVariants as refusals
-use Rattle.wire_front.specs.{FrontView, NoRespelling}
-use Rattle.wire_front.specs.declared.cause.FrontCause.{FrontCause}
-use Rattle.wire_front.specs.Fronts.{PutsOut, refused, respelled, with_server}
+use Rattle.wire_serve.specs.{FrontView, NoRespelling}
+use Rattle.wire_serve.specs.declared.cause.FrontCause.{FrontCause}
+use Rattle.wire_serve.specs.Fronts.{PutsOut, refused, respelled, with_server}
 use Rattle.wire_hall_laws.specs.Owning.{GivenAs, IsGiven, IsOneAnswer, all_put_out, and_as_it_is, and_respelled, last_lost}
 
 none_at : (s : ServerView) (m : Message) → s.waiting ≡ [] → WaitsAt s 0 m → ⊥

@@ -4,9 +4,9 @@ use Rattle.std.proofs.lemmas.Option.{none-some, same_Some}
 use Rattle.slab.specs.Slab.{Slab, Updates, get}
 use Rattle.wire_peer.specs.{Asked, Does, LogEntry, RunOf, ServerView, Stops, log_of, new_server}
 use Rattle.wire_peer.specs.declared.log.Logged.{Logged}
-use Rattle.wire_hall.specs.{HallAct, HallDoes, HallRun, HallSeen, IsNewHall, SeatAct, SeatSeen, SeatServed, SeatTurns, Tells, made_by, new_seat, of_acts, of_turns, received_by, sent_by, taken_by, told_in, turns_of}
-use Rattle.wire_hall.specs.Halls.{Acts, Closes, Forgets, IsActed, IsForgotten, IsOpened, Opens, Stays}
-use Rattle.wire_hall.proofs.Lemmas.{none_served, turns_serve}
+use Rattle.wire_serve.specs.{HallAct, HallDoes, HallRun, HallSeen, IsNewHall, SeatAct, SeatSeen, SeatServed, SeatTurns, Tells, made_by, new_seat, of_acts, of_turns, received_by, sent_by, taken_by, told_in, turns_of}
+use Rattle.wire_serve.specs.Halls.{Acts, Closes, Forgets, IsActed, IsForgotten, IsOpened, Opens, Stays}
+use Rattle.wire_serve.proofs.Lemmas.{none_served, turns_serve}
 use Rattle.wire_model.specs.{AreContents, Made, ServerAct, ServerEnd, ServerEnds, ServersGrow, ServersRun, Turn, among, at_server, bytes_sent_down, bytes_taken_up, deeds_of, first_servers_of, server_acts_at, server_at, server_set}
 use Rattle.wire_model.specs.Hostile.{entries_of}
 use Rattle.wire_model.proofs.Lemmas.{get-push_new, grows_on, length-push, log_contents, run_among, run_grows, same_or_not, sent_down_on, server_set-other, server_set-same, taken_up_on}

@@ -5,8 +5,8 @@
 //! what it gave. So what `wire_model::pair_laws` says of servers holds of the connections of a
 //! hall, whatever is done with it and whatever their links do.
 //!
-//! Uses wire_hall and wire_model. Used by no crate: `laws` is for readers. Read first:
-//! `specs/Halls.antt` of wire_hall, then `specs/Owning.antt`, and then `laws`.
+//! Uses wire_serve and wire_model. Used by no crate: `laws` is for readers. Read first:
+//! `specs/Halls.antt` of wire_serve, then `specs/Owning.antt`, and then `laws`.
 #![tactic(auto)]
 
 pub mod laws;

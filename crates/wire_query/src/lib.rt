@@ -8,8 +8,7 @@
 //!
 //! Queries of collections other than `$cmd` are refused by a cause of their own.
 //!
-//! Uses bson_raw and wire_msg. Used by wire_front and proxy. Read first:
-//! `query`, and then `check`.
+//! Uses bson_raw and wire_msg. Used by wire_serve and proxy. Read first: `query`, and then `check`.
 #![tactic(auto)]
 
 mod check;

@@ -11,13 +11,12 @@ use Rattle.wire_peer.specs.declared.server_state.ServerCause.{ServerCause}
 use Rattle.wire_peer.specs.Replying.{ReplyStep}
 use Rattle.wire_peer.specs.ServerAnswers.{cause_of, replies_of}
 use Rattle.wire_model.proofs.Lemmas.{same_request}
-use Rattle.wire_front.specs.{FrontView, HasLeft, state_of}
-use Rattle.wire_front.specs.Fronts.{ended_by}
-use Rattle.wire_front.specs.declared.cause.FrontState.{FrontState}
-use Rattle.wire_front.specs.declared.cause.FrontState.TheVariants as fronts
-use Rattle.wire_hall.specs.{IsServed}
-use Rattle.wire_hall.specs.Serving.{all_answered, nothing, one_lost, one_waits}
-use Rattle.wire_hall.proofs.Lemmas.{answer_number, answers, ended_same, goes, put_server, takes, takes_same}
+use Rattle.wire_serve.specs.{FrontView, HasLeft, IsServed, state_of}
+use Rattle.wire_serve.specs.Fronts.{ended_by}
+use Rattle.wire_serve.specs.declared.cause.FrontState.{FrontState}
+use Rattle.wire_serve.specs.declared.cause.FrontState.TheVariants as fronts
+use Rattle.wire_serve.specs.Serving.{all_answered, nothing, one_lost, one_waits}
+use Rattle.wire_serve.proofs.Lemmas.{answer_number, answers, ended_same, goes, put_server, takes, takes_same}
 use Rattle.wire_share.specs.Acts.{Answers, DownAct, DownDoes, DownMove, DownMoves, DownRun, Ends, GoesWith, Moves, PassesOn, Sends, Stays, Takes}
 use Rattle.wire_share.specs.Answering.{EachMakesOwn, IsAnswered, IsEntryWith, MakesOwn, made_by, of_acts, sent_by, taken_by}
 use Rattle.wire_share.specs.Sharing.{DownSeen, Leaves, echoes, new_downstream, relays, wants_memory}

@@ -4,10 +4,10 @@ use Rattle.std.specs.Prelude.{slice_get}
 use Rattle.std.proofs.lemmas.Option.{none-some, same_Some}
 use Rattle.wire_msg.specs.{Content, Message, SpellsMsg}
 use Rattle.wire_peer.specs.{LogEntry, WaitsAt}
-use Rattle.wire_front.specs.{FrontView, state_of}
-use Rattle.wire_front.specs.Fronts.{ended_by}
-use Rattle.wire_front.specs.declared.cause.FrontState.{FrontState}
-use Rattle.wire_front.specs.declared.cause.FrontState.TheVariants as fronts
+use Rattle.wire_serve.specs.{FrontView, state_of}
+use Rattle.wire_serve.specs.Fronts.{ended_by}
+use Rattle.wire_serve.specs.declared.cause.FrontState.{FrontState}
+use Rattle.wire_serve.specs.declared.cause.FrontState.TheVariants as fronts
 use Rattle.wire_model.proofs.Lemmas.{same_request}
 use Rattle.wire_share.specs.declared.awaited.Awaited.{Awaited}
 use Rattle.wire_share.specs.Acts.{Answers, DownAct, DownDoes, DownMove, DownMoves, DownRun, Ends, GoesWith, Moves, PassesOn, Sends, Stays, Takes}

@@ -8,7 +8,7 @@ use Rattle.wire_peer.specs.declared.echoing.Echo.{Echo}
 use Rattle.wire_peer.specs.declared.requests.Request.{Request}
 use Rattle.wire_peer.specs.declared.server_state.AnswerRefusal.{AnswerRefusal}
 use Rattle.wire_peer.proofs.Lemmas.{content_is}
-use Rattle.wire_front.specs.{FrontAnswers, FrontView, HasLeft}
+use Rattle.wire_serve.specs.{FrontAnswers, FrontView, HasLeft}
 use Rattle.wire_share.specs.declared.awaited.Awaited.{Awaited}
 use Rattle.wire_share.specs.declared.relayed.Relayed.{Relayed}
 use Rattle.wire_share.specs.Sharing.{DownSeen, GoesOn, IsGiven, IsPassed, Leaves, UpSeen, Waits, kind_by, of_call, relays, wants_memory, with_client}

@@ -7,7 +7,7 @@ use Rattle.wire_peer.specs.{LogEntry, WaitsAt, content_of}
 use Rattle.wire_peer.specs.declared.echoing.Echo.{Echo}
 use Rattle.wire_peer.specs.declared.call_table.ReadyReply.{ReadyReply}
 use Rattle.wire_peer.specs.declared.calls.CallNo.{CallNo}
-use Rattle.wire_front.specs.{FrontTakes, IsReady, ended_front}
+use Rattle.wire_serve.specs.{FrontTakes, IsReady, ended_front}
 use Rattle.wire_model.specs.{ClientAct}
 use Rattle.wire_model.specs.Owners as owners
 use Rattle.wire_share.specs.declared.awaited.Awaited.{Awaited}

@@ -2,7 +2,7 @@
 use Rattle.std.specs.Prelude.{◌≡◌, ◌⊎◌, ℕ, List, [], ◌∷◌, ◌++◌, Some, None}
 use Rattle.wire_msg.specs.{Content, Message}
 use Rattle.wire_peer.specs.{LogEntry, asked_by, entered}
-use Rattle.wire_hall.specs.{IsServed}
+use Rattle.wire_serve.specs.{IsServed}
 use Rattle.wire_share.specs.Acts.{Answers, DownAct, Moves, PassesOn, Sends, Takes}
 use Rattle.wire_share.specs.Sharing.{DownSeen}
 

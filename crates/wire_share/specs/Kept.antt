@@ -2,7 +2,7 @@
 use Rattle.std.specs.Prelude.{◌≡◌, ◌≢◌, [], Option, None}
 use Rattle.wire_msg.specs.{Message}
 use Rattle.wire_peer.specs.{WaitsAt}
-use Rattle.wire_front.specs.{FrontView}
+use Rattle.wire_serve.specs.{FrontView}
 use Rattle.wire_share.specs.declared.awaited.Awaited.{Awaited}
 
 -- While a reply is awaited its request waits, and nothing is to be sent.

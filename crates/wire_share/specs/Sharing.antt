@@ -13,8 +13,8 @@ use Rattle.wire_peer.specs.declared.calls.CallNo.{CallNo}
 use Rattle.wire_peer.specs.declared.echoing.Echo.{Echo}
 use Rattle.wire_peer.specs.declared.handlers.HandlerStop.TheVariants as stops
 use Rattle.wire_peer.specs.declared.server_state.AnswerRefusal.{AnswerRefusal}
-use Rattle.wire_front.specs.{FrontAnswers, FrontView, HasLeft, new_front, state_of}
-use Rattle.wire_front.specs.declared.cause.FrontState.TheVariants as fronts
+use Rattle.wire_serve.specs.{FrontAnswers, FrontView, HasLeft, new_front, state_of}
+use Rattle.wire_serve.specs.declared.cause.FrontState.TheVariants as fronts
 use Rattle.wire_share.specs.declared.awaited.Awaited.{Awaited}
 use Rattle.wire_share.specs.declared.refusals.GiveRefusal.{GiveRefusal}
 use Rattle.wire_share.specs.declared.refusals.GiveRefusal.TheVariants as given

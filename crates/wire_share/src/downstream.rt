@@ -8,7 +8,7 @@ ghost use Rattle.wire_peer.specs.{WaitsAt, asked, asked_by, content_of, ready_of
 ghost use Rattle.wire_peer.specs.declared.call_table.ReadyReply.{ReadyReply};
 ghost use Rattle.wire_peer.specs.declared.echoing.Echo.{Echo};
 ghost use Rattle.wire_stream.specs.{CompletesHeader};
-ghost use Rattle.wire_front.specs.{FrontTakes, HasLeft, IsReady, ended_front, state_of};
+ghost use Rattle.wire_serve.specs.{FrontTakes, HasLeft, IsReady, ended_front, state_of};
 ghost use Rattle.wire_share.specs.Sharing.{Awaits, GiveStep, IsGiven, Leaves, PassStep, Waits};
 ghost use Rattle.wire_share.specs.Sharing.{echoes, new_downstream};
 
@@ -18,9 +18,9 @@ use crate::relayed::Relayed;
 use crate::upstream::Upstream;
 use std::alloc::{AllocError, Global};
 use std::marker::Model;
-use wire_front::{Front, FrontState};
 use wire_msg::Payload;
 use wire_peer::{AnswerRefusal, Echo, Logged, Reply, Request};
+use wire_serve::{Front, FrontState};
 use wire_stream::ReadRefusal;
 
 /// A front of one connection, and the call that its request was passed on as. It reads and writes

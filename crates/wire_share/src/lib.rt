@@ -9,8 +9,8 @@
 //! the request's own payload, and no two requests get one answer; and that each connection's
 //! requests are answered in order, each once.
 //!
-//! Uses wire_front, wire_peer, wire_hall and wire_model. Read first: `specs/Sharing.antt`, then
-//! `downstream`, and then `laws`.
+//! Uses wire_serve, wire_peer and wire_model. Read first: `specs/Sharing.antt`, then `downstream`,
+//! and then `laws`.
 #![tactic(auto)]
 
 mod awaited;

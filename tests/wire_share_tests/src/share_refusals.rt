@@ -4,8 +4,8 @@ ghost use Rattle.std.specs.Prelude.{◌≤◌};
 
 use crate::sharing::{ASKED_1, GIVEN_1, PASSED_1, REPLY_1};
 use std::alloc::Global;
-use wire_front::{FrontCause, FrontState};
 use wire_peer::{CallRefusal, ServerCause};
+use wire_serve::{FrontCause, FrontState};
 use wire_share::{Downstream, GiveRefusal, PassRefusal, Upstream};
 
 /// Feeds a request, and feeds on where memory was refused, which has to take nothing.

@@ -4,8 +4,8 @@
 ghost use Rattle.std.specs.Prelude.{◌<◌, ◌≤◌};
 
 use std::alloc::Global;
-use wire_front::{FrontCause, FrontState};
 use wire_peer::{CallRefusal, ClientState, ServerCause};
+use wire_serve::{FrontCause, FrontState};
 use wire_share::{Awaited, Downstream, GiveRefusal, PassRefusal, Upstream};
 
 /// What a client and a connection do, and have to come to.

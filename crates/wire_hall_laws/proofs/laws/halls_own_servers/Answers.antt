@@ -1,4 +1,4 @@
-use Rattle.wire_hall.specs.{tells}
+use Rattle.wire_serve.specs.{tells}
 use Rattle.wire_hall_laws.proofs.Halls.{owns}
 use Rattle.wire_hall_laws.proofs.laws.halls_own_servers.Goals as goal
 

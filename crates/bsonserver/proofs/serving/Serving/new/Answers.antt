@@ -1,5 +1,5 @@
 use Rattle.std.proofs.Common.{refl, sym, subst, []}
-use Rattle.wire_hall.specs.{tells}
+use Rattle.wire_serve.specs.{tells}
 use Rattle.bsonserver.specs.Serving.{Serves, begun}
 use Rattle.bsonserver.proofs.serving.Serving.new.Goals as goal
 

@@ -1,5 +1,5 @@
 use Rattle.std.proofs.Common.{refl, subst}
-use Rattle.wire_hall.specs.{tells}
+use Rattle.wire_serve.specs.{tells}
 use Rattle.std.specs.Io.KnownBytes.{Appends}
 use Rattle.bsonserver.specs.Transcript.{new_text}
 use Rattle.bsonserver.proofs.Steps.{opens}

@@ -1,6 +1,6 @@
 use Rattle.std.proofs.Common.{sym, subst, ap, ◌∙◌}
 use Rattle.slab.specs.Slab.{get}
-use Rattle.wire_hall.specs.{IsGated, tells}
+use Rattle.wire_serve.specs.{IsGated, tells}
 use Rattle.bsonserver.specs.Serving.{gate_after, reply_flow}
 use Rattle.bsonserver.proofs.Steps.{steered_by}
 use Rattle.bsonserver.proofs.serving.Serving.steer.Goals as goal

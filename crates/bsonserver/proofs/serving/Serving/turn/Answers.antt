@@ -1,7 +1,7 @@
 use Rattle.std.proofs.Common.{sym, subst, ap, ◌∙◌, ◌≡◌, Some, None}
 use Rattle.slab.specs.Slab.{Updates, get}
-use Rattle.wire_hall.specs.{tells}
-use Rattle.wire_hall.specs.declared.turned.Turned.{Turned}
+use Rattle.wire_serve.specs.{tells}
+use Rattle.wire_serve.specs.declared.turned.Turned.{Turned}
 use Rattle.wire_peer.specs.{log_of}
 use Rattle.bsonserver.specs.declared.reply_rules.ReplyRules.{ReplyRules}
 use Rattle.bsonserver.specs.Replies.{Follows}

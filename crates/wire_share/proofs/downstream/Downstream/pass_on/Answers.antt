@@ -1,6 +1,6 @@
 use Rattle.std.proofs.Common.{ap, ◌∙◌, refl, sym, Some}
 use Rattle.wire_peer.specs.{Asked}
-use Rattle.wire_front.specs.{FrontView}
+use Rattle.wire_serve.specs.{FrontView}
 use Rattle.wire_share.specs.Sharing.{DownSeen, of_call}
 use Rattle.wire_share.specs.declared.awaited.Awaited.{Awaited}
 use Rattle.wire_share.proofs.Passing.{awaited_on, left_on, passed, passes_on}

@@ -1,4 +1,0 @@
-pub mod Lemmas
-pub mod Runs
-pub mod Steps
-pub mod Served

@@ -1,0 +1,10 @@
+pub mod Gathering
+pub mod Feeding
+pub mod Sequencing
+pub mod Taking
+pub mod Answering
+pub mod Asking
+pub mod Runs
+pub mod Steps
+pub mod Served
+pub mod Lemmas
