@@ -7,4 +7,13 @@ pub mod Asking
 pub mod Runs
 pub mod Steps
 pub mod Served
+pub mod Fed
+pub mod Given
+pub mod Made
+pub mod Told
+pub mod Acts
+pub mod Counted
+pub mod Places
+pub mod Halls
+pub mod Beside
 pub mod Lemmas

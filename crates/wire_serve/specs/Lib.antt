@@ -7,6 +7,7 @@ pub mod Seats
 pub mod Halls
 pub mod Serving
 pub mod Valves
+pub mod Owning
 -- the words that clauses of other crates cite
 pub use Rattle.wire_serve.specs.Fronts.{FrontAnswers, FrontTakes, FrontView, HasLeft, IsReady}
 pub use Rattle.wire_serve.specs.Fronts.{ended_front, new_front, state_of}
@@ -20,3 +21,4 @@ pub use Rattle.wire_serve.specs.Halls.{IsTurned, hall_seen, told_in, turns_of}
 pub use Rattle.wire_serve.specs.Serving.{IsServed, SeatServed, Serves, made_by, of_acts, of_turns}
 pub use Rattle.wire_serve.specs.Serving.{received_by, sent_by, taken_by}
 pub use Rattle.wire_serve.specs.Valves.{Passes}
+pub use Rattle.wire_serve.specs.Owning.{FedAs, GivenAs, HasServer, IsFed, IsGiven, OwnsServers}

@@ -15,8 +15,13 @@
 //! `laws` says what comes of the turns of one seat, whatever others do in between: its requests are
 //! answered in order, each once, and what is sent are their replies.
 //!
-//! Uses wire_peer and wire_query. Used by bsonserver, wire_share and shared_proxy. Read first: `front`
-//! and `passing`, then `seat`, and then `hall`.
+//! `owner_laws` says that a hall is an owner of servers: it makes one for each connection, feeds it
+//! the messages that the connection's bytes spell, has it answer, and sends what it gave
+//! (`specs/Owning.antt`). So what `wire_model::pair_laws` says of servers holds of the connections
+//! of a hall, whatever is done with it and whatever their links do.
+//!
+//! Uses wire_model, wire_peer and wire_query. Used by bsonserver, wire_share and shared_proxy. Read
+//! first: `front` and `passing`, then `seat` and `hall`, and then `owner_laws`.
 #![tactic(auto)]
 
 mod cause;
@@ -24,6 +29,7 @@ mod front;
 mod hall;
 mod head;
 pub mod laws;
+pub mod owner_laws;
 mod passing;
 mod respelling;
 mod seat;

@@ -10,12 +10,12 @@ use Rattle.wire_peer.specs.{ServerView, TakesBytes}
 use Rattle.wire_peer.specs.Servers.{holding}
 use Rattle.wire_query.specs.{message_of}
 use Rattle.wire_query.proofs.Lemmas.{message_spelled}
-use Rattle.wire_serve.specs.{FrontTakes, FrontView, IsReady, with_request}
-use Rattle.wire_serve.specs.Fronts.{asks, begins, gathers, goes_on, refuses}
+use Rattle.wire_serve.specs.Fronts.{FrontTakes, FrontView, IsReady, asks, begins, gathers, goes_on, refuses}
+use Rattle.wire_serve.specs.Passing.{with_request}
 use Rattle.wire_serve.specs.declared.cause.FrontCause.{FrontCause}
 use Rattle.wire_model.specs.{ServerAct, ServerMovesOn, bytes_sent_down, bytes_taken_up}
 use Rattle.wire_model.specs.Owners.{TakesUp}
-use Rattle.wire_hall_laws.specs.Owning.{FedAs, IsFed, and_a_message, and_a_query}
+use Rattle.wire_serve.specs.Owning.{FedAs, IsFed, and_a_message, and_a_query}
 
 -- ---- a whole message
 

@@ -4,19 +4,20 @@ use Rattle.std.proofs.lemmas.Option.{none-some, same_Some}
 use Rattle.slab.specs.Slab.{Slab, Updates, get}
 use Rattle.wire_peer.specs.{Asked, Does, LogEntry, RunOf, ServerView, Stops, log_of, new_server}
 use Rattle.wire_peer.specs.declared.log.Logged.{Logged}
-use Rattle.wire_serve.specs.{HallAct, HallDoes, HallRun, HallSeen, IsNewHall, SeatAct, SeatSeen, SeatServed, SeatTurns, Tells, made_by, new_seat, of_acts, of_turns, received_by, sent_by, taken_by, told_in, turns_of}
-use Rattle.wire_serve.specs.Halls.{Acts, Closes, Forgets, IsActed, IsForgotten, IsOpened, Opens, Stays}
-use Rattle.wire_serve.proofs.Lemmas.{none_served, turns_serve}
+use Rattle.wire_serve.specs.Halls.{Acts, Closes, Forgets, HallAct, HallDoes, HallRun, HallSeen, IsActed, IsForgotten, IsNewHall, IsOpened, Opens, Stays, told_in, turns_of}
+use Rattle.wire_serve.specs.Seats.{SeatAct, SeatSeen, SeatTurns, Tells, new_seat}
+use Rattle.wire_serve.specs.Serving.{SeatServed, made_by, of_acts, of_turns, received_by, sent_by, taken_by}
+use Rattle.wire_serve.proofs.Served.{none_served, turns_serve}
 use Rattle.wire_model.specs.{AreContents, Made, ServerAct, ServerEnd, ServerEnds, ServersGrow, ServersRun, Turn, among, at_server, bytes_sent_down, bytes_taken_up, deeds_of, first_servers_of, server_acts_at, server_at, server_set}
 use Rattle.wire_model.specs.Hostile.{entries_of}
 use Rattle.wire_model.proofs.Lemmas.{get-push_new, grows_on, length-push, log_contents, run_among, run_grows, same_or_not, sent_down_on, server_set-other, server_set-same, taken_up_on}
 use Rattle.wire_model.specs.Deeds.{opened}
 use Rattle.wire_model.specs.Deeds as owners
-use Rattle.wire_hall_laws.specs.Owning.{HasServer, OwnsServers, all_put_out, link_at, links_in, none_came, none_given}
-use Rattle.wire_hall_laws.proofs.Acts.{Fits, Owned, acts_owned, end_of, same_fits}
-use Rattle.wire_hall_laws.proofs.Places.{at_cases, at_one, at_push, found_or_not, none_past, not_past, one_far, one_here}
-use Rattle.wire_hall_laws.proofs.Told.{contents_behind, contents_front}
-use Rattle.wire_hall_laws.proofs.Counted.{acts_with_far, acts_with_here, deeds_on, link-push, many_set, no_link, no_turn, none_told, of_turns-push, one_link, seat_turns-push, these_told, turn_far, turn_here, with_acts}
+use Rattle.wire_serve.specs.Owning.{HasServer, OwnsServers, all_put_out, link_at, links_in, none_came, none_given}
+use Rattle.wire_serve.proofs.Acts.{Fits, Owned, acts_owned, end_of, same_fits}
+use Rattle.wire_serve.proofs.Places.{at_cases, at_one, at_push, found_or_not, none_past, not_past, one_far, one_here}
+use Rattle.wire_serve.proofs.Told.{contents_behind, contents_front}
+use Rattle.wire_serve.proofs.Counted.{acts_with_far, acts_with_here, deeds_on, link-push, many_set, no_link, no_turn, none_told, of_turns-push, one_link, seat_turns-push, these_told, turn_far, turn_here, with_acts}
 
 abbrev number_of : {L : Type 0} → SeatSeen L → ℕ
 number_of seat = seat.front.server.connection

@@ -3,10 +3,11 @@ use Rattle.std.proofs.Common.{◌≡◌, ℕ, zero, suc, Bool, true, false, List
 use Rattle.std.specs.Prelude.{◌==◌, if◌then◌else◌}
 use Rattle.wire_peer.specs.{Does, LogEntry, ServerView, Stops}
 use Rattle.wire_peer.specs.declared.log.Logged.{Logged}
-use Rattle.wire_serve.specs.{HallAct, SeatAct, SeatRun, SeatSeen, SeatTurns, Tells, of_acts, of_turns, told_in, turns_of}
-use Rattle.wire_serve.specs.Halls.{Acts, Closes, Forgets, Opens, Stays}
+use Rattle.wire_serve.specs.Halls.{Acts, Closes, Forgets, HallAct, Opens, Stays, told_in, turns_of}
+use Rattle.wire_serve.specs.Seats.{SeatAct, SeatRun, SeatSeen, SeatTurns, Tells}
+use Rattle.wire_serve.specs.Serving.{of_acts, of_turns}
 use Rattle.std.proofs.lemmas.Option.{none-some}
-use Rattle.wire_hall_laws.specs.Owning.{link_at, links_in}
+use Rattle.wire_serve.specs.Owning.{link_at, links_in}
 use Rattle.wire_model.proofs.Lemmas.{get-push_old, is_elsewhere, is_here, length-slice_set}
 use Rattle.wire_model.specs.{Deed, ServerAct, Turn, at_server, deeds_of, server_acts_at, server_set}
 use Rattle.wire_model.specs.Deeds.{AtClient, AtServer, Is}

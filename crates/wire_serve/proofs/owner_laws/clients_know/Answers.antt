@@ -1,8 +1,8 @@
 use Rattle.std.proofs.Common.{List, ◌≤◌, subst, sym, arith}
 use Rattle.wire_model.specs.{ServersGrow, Turn, deeds_of, first_servers_of, opened_in}
 use Rattle.wire_model.proofs.Lemmas.{grown_beside}
-use Rattle.wire_hall_laws.proofs.Beside.{grown_alone}
-use Rattle.wire_hall_laws.proofs.laws.clients_know.Goals as goal
+use Rattle.wire_serve.proofs.Beside.{grown_alone}
+use Rattle.wire_serve.proofs.owner_laws.clients_know.Goals as goal
 
 pub returns : goal.returns
 returns g c = λ made first acts hall owned strange turns ends good same runs arrive.

@@ -4,19 +4,19 @@ use Rattle.wire_peer.specs.{AnswerStep, Does, LogEntry, ServerView, Stops, log_o
 use Rattle.wire_peer.specs.declared.log.Logged.{Logged}
 use Rattle.wire_peer.specs.declared.server_state.AnswerRefusal.{AnswerRefusal}
 use Rattle.wire_peer.specs.declared.server_state.AnswerRefusal.TheVariants as refusals
-use Rattle.wire_serve.specs.{FrontTakes, FrontView, IsReady, SeatAct, SeatRun, SeatSeen, Tells, ended_front, made_by, of_acts, sent_by, state_of, taken_by}
-use Rattle.wire_serve.specs.Fronts.{PutsOut, ended_by, refused, respelled, with_server}
+use Rattle.wire_serve.specs.Fronts.{FrontTakes, FrontView, IsReady, PutsOut, ended_by, ended_front, refused, respelled, state_of, with_server}
+use Rattle.wire_serve.specs.Seats.{Answers, Ends, Fails, IsAnswered, Receives, SeatAct, SeatDoes, SeatRun, SeatSeen, Sends, SetsGate, Takes, Tells, Waits}
+use Rattle.wire_serve.specs.Serving.{made_by, of_acts, sent_by, taken_by}
 use Rattle.wire_serve.specs.declared.cause.FrontState.{FrontState}
 use Rattle.wire_serve.specs.declared.cause.FrontState.TheVariants as fronts
-use Rattle.wire_serve.specs.Seats.{Answers, Ends, Fails, IsAnswered, Receives, SeatDoes, Sends, SetsGate, Takes, Waits}
 use Rattle.wire_model.specs.{AreContents, ServerAct, ServerEnd, ServerMovesOn, ServerRun, bytes_sent_down, bytes_taken_up}
 use Rattle.wire_model.proofs.Lemmas.{log_contents, moves_run, sent_down_on, server_on, taken_up_on}
 use Rattle.wire_model.specs.Owners as owners
-use Rattle.wire_hall_laws.specs.Owning.{IsFed, IsGiven}
-use Rattle.wire_hall_laws.proofs.Fed.{takes, takes_keep}
-use Rattle.wire_hall_laws.proofs.Given.{gives, goes, keeps_out, left}
-use Rattle.wire_hall_laws.proofs.Made.{Adds, adds_none, adds_then, answer_adds}
-use Rattle.wire_hall_laws.proofs.Told.{among_all, answer_behind, contents_behind}
+use Rattle.wire_serve.specs.Owning.{IsFed, IsGiven}
+use Rattle.wire_serve.proofs.Fed.{takes, takes_keep}
+use Rattle.wire_serve.proofs.Given.{gives, goes, keeps_out, left}
+use Rattle.wire_serve.proofs.Made.{Adds, adds_none, adds_then, answer_adds}
+use Rattle.wire_serve.proofs.Told.{among_all, answer_behind, contents_behind}
 
 -- A front of connection c: these bytes came and went at it, and these were fed to its server and given by it.
 pub record Fits (c : ℕ) (came went fed given : List ℕ) (f : FrontView) : Type 0 where

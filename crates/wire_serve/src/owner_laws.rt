@@ -4,8 +4,9 @@ ghost use Rattle.std.specs.Prelude.{◌≡◌, Bool, List, [], false, ℕ};
 ghost use Rattle.wire_model.specs.{AreMade, Arrive, ClientEnd, ClientRun, Made, PairsKnow, Turn};
 ghost use Rattle.wire_model.specs.{acts_at, deeds_beside, deeds_of, first_end, opened_in};
 ghost use Rattle.wire_model.specs.{server_turns};
-ghost use Rattle.wire_serve.specs.{HallAct, HallRun, HallSeen, IsNewHall, tells};
-ghost use Rattle.wire_hall_laws.specs.Owning.{OwnsServers};
+ghost use Rattle.wire_serve.specs.Halls.{HallAct, HallRun, HallSeen, IsNewHall};
+ghost use Rattle.wire_serve.specs.Seats.{tells};
+ghost use Rattle.wire_serve.specs.Owning.{OwnsServers};
 
 use wire_model::pair_laws::{servers_may_come, strangers_disturb_none};
 use wire_peer::Handler;

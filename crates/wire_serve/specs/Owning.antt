@@ -6,11 +6,13 @@ use Rattle.wire_msg.specs.{Content, Message, SpellsMsg, canonical}
 use Rattle.wire_query.specs.{Query, SpellsQuery, message_of}
 use Rattle.wire_peer.specs.{Asked, Does, LogEntry, RunOf, ServerView, Stops, asked_by, log_of}
 use Rattle.wire_peer.specs.{replies, written}
-use Rattle.wire_serve.specs.{FrontView, HallAct, HallSeen, NoRespelling, Respells, SeatAct}
-use Rattle.wire_serve.specs.{SeatSeen, SeatServed, Tells, of_turns, received_by, sent_by, taken_by}
-use Rattle.wire_serve.specs.{told_in, turns_of}
+use Rattle.wire_serve.specs.Fronts.{FrontView}
+use Rattle.wire_serve.specs.Halls.{Acts, Closes, Forgets, HallAct, HallSeen, Opens, Stays, told_in}
+use Rattle.wire_serve.specs.Halls.{turns_of}
+use Rattle.wire_serve.specs.Respelling.{NoRespelling, Respells}
+use Rattle.wire_serve.specs.Seats.{SeatAct, SeatSeen, Tells}
+use Rattle.wire_serve.specs.Serving.{SeatServed, of_turns, received_by, sent_by, taken_by}
 use Rattle.wire_serve.specs.declared.cause.FrontCause.{FrontCause}
-use Rattle.wire_serve.specs.Halls.{Acts, Closes, Forgets, Opens, Stays}
 use Rattle.wire_model.specs.Hostile.{entries_of}
 use Rattle.wire_model.specs.{Made, ServerAct, ServerEnds, ServersGrow, Turn, bytes_sent_down}
 use Rattle.wire_model.specs.{bytes_taken_up, deeds_of, first_servers_of, server_acts_at, server_at}

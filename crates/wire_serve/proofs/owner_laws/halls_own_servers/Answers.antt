@@ -1,6 +1,6 @@
-use Rattle.wire_serve.specs.{tells}
-use Rattle.wire_hall_laws.proofs.Halls.{owns}
-use Rattle.wire_hall_laws.proofs.laws.halls_own_servers.Goals as goal
+use Rattle.wire_serve.specs.Seats.{tells}
+use Rattle.wire_serve.proofs.Halls.{owns}
+use Rattle.wire_serve.proofs.owner_laws.halls_own_servers.Goals as goal
 
 pub returns : goal.returns
 returns g c = λ made first acts old new one_each begins run.

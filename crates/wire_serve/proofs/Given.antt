@@ -6,10 +6,10 @@ use Rattle.wire_peer.specs.{AnswerStep, Does, LogEntry, ServerView, Stops, Waits
 use Rattle.wire_peer.specs.Chains.{ReplyState}
 use Rattle.wire_peer.specs.declared.server_state.AnswerRefusal.{AnswerRefusal}
 use Rattle.wire_peer.specs.declared.server_state.AnswerRefusal.TheVariants as refusals
-use Rattle.wire_serve.specs.{FrontView, NoRespelling}
+use Rattle.wire_serve.specs.Fronts.{FrontView, PutsOut, refused, respelled, with_server}
+use Rattle.wire_serve.specs.Respelling.{NoRespelling}
 use Rattle.wire_serve.specs.declared.cause.FrontCause.{FrontCause}
-use Rattle.wire_serve.specs.Fronts.{PutsOut, refused, respelled, with_server}
-use Rattle.wire_hall_laws.specs.Owning.{GivenAs, IsGiven, IsOneAnswer, all_put_out, and_as_it_is, and_respelled, last_lost}
+use Rattle.wire_serve.specs.Owning.{GivenAs, IsGiven, IsOneAnswer, all_put_out, and_as_it_is, and_respelled, last_lost}
 
 none_at : (s : ServerView) (m : Message) → s.waiting ≡ [] → WaitsAt s 0 m → ⊥
 none_at s m none w = absurd (cc (none, w.at))

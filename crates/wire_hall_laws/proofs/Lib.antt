@@ -1,9 +1,0 @@
-pub mod Fed
-pub mod Given
-pub mod Made
-pub mod Told
-pub mod Acts
-pub mod Counted
-pub mod Places
-pub mod Halls
-pub mod Beside
