@@ -1,9 +1,8 @@
 //! How a connection ended.
 
 use crate::direction::Direction;
-use sockets::IoFailure;
+use sockets::{IoFailure, RelayFault};
 use std::fmt;
-use wire_relay::RelayFault;
 
 /// Who is at one end of a connection.
 #[derive(Clone, Copy, Debug, PartialEq, Eq)]

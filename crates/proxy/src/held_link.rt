@@ -3,12 +3,12 @@
 ghost use Rattle.std.specs.Prelude.{◌≡◌, ◌≢◌, ◌≤◌, ◌<◌, None, IfErr, IfOk, length};
 ghost use Rattle.wire_stream.specs.{bytes_moved};
 
+use sockets::EndSending;
 use std::alloc::{AllocError, Global};
 use std::io::ErrorKind;
 use std::mem::replace;
 use wire_frames::{FrameFront, RawFrame};
 use wire_msg::MAX_MESSAGE_LEN;
-use wire_relay::EndSending;
 use wire_stream::{Link, LinkFault, Moved};
 
 /// The most bytes that are received at once where messages are held.

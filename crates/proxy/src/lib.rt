@@ -3,14 +3,15 @@
 //!
 //! It writes where it listens. A `Watch` finds the messages of what passed, and gives each, once it
 //! is whole, to a `Sink`, which shows or records it, as `Options` ask for. What is proved of the
-//! bytes is the law of wire_relay. All connections are served in one thread.
+//! bytes is the law `sockets::relay_laws::what_went_came`. All connections are served in one
+//! thread.
 //!
 //! Faults are made by a script, whose rules say what becomes of requests and their replies, or by a
 //! seed, from which it is drawn where each connection is cut. With a script a `HeldLink` holds each
 //! message until it is whole, and `fate` asks the script.
 //!
-//! Uses sockets, wire_relay, test_script, wire_frames and wire_text. Used by shared_proxy and bsonwire.
-//! Read first: `options`, `pair`, `sink`, and then `proxy`.
+//! Uses sockets, test_script, wire_frames and wire_text. Used by shared_proxy and bsonwire. Read
+//! first: `options`, `pair`, `sink`, and then `proxy`.
 #![tactic(auto)]
 
 mod chance;

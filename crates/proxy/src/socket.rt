@@ -3,12 +3,12 @@
 ghost use Rattle.std.specs.Prelude.{None};
 
 use mio::net::TcpStream;
+use sockets::EndSending;
 use std::alloc::{AllocError, Global};
 use std::io;
 use std::io::{Read, Write};
 use std::net::Shutdown;
 use std::rc::Rc;
-use wire_relay::EndSending;
 use wire_stream::{Link, LinkFault, Moved, TcpLink};
 
 /// A stream that a link and its owner share.

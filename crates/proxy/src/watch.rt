@@ -4,6 +4,7 @@ ghost use Rattle.std.specs.Prelude.{None};
 
 use crate::direction::Direction;
 use crate::sink::Sink;
+use sockets::Tap;
 use std::alloc::Global;
 use std::io;
 use std::io::{ErrorKind, Write};
@@ -11,7 +12,6 @@ use std::rt::Files;
 use std::time::Clock;
 use wire_frames::{FrameFront, FrameReader};
 use wire_msg::MAX_MESSAGE_LEN;
-use wire_relay::Tap;
 
 /// One way of the connection of a number.
 #[derive(Clone, Copy)]

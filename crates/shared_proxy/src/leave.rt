@@ -1,11 +1,10 @@
 //! Why a connection is over.
 
 use proxy::Direction;
-use sockets::IoFailure;
+use sockets::{IoFailure, RelayFault};
 use std::fmt;
 use std::io::ErrorKind;
 use wire_peer::{CallRefusal, ClientCause, ClientState, ServerCause};
-use wire_relay::RelayFault;
 use wire_serve::{FrontCause, FrontState};
 use wire_stream::LinkFault;
 

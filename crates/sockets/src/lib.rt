@@ -4,8 +4,15 @@
 //! turn, and of which a message is held; whether a connection stands, and why a call of the system
 //! failed.
 //!
-//! Uses mio. Used by proxy, shared_proxy, replay, bsonwire and test_server. Read first: `polling`, and
-//! then `acceptor`.
+//! A `Relay` passes bytes between two links, both ways, unchanged. It holds two `Way`s, each with
+//! bytes that came over the one link and weren't sent over the other yet, and takes turns of a
+//! bounded number of steps. Where a link ends, what came over it is sent, and then the other link's
+//! sending ends, while bytes still go the other way. A `Tap` of each way sees the bytes that come on
+//! it. `relay_laws` says that what was sent over a link is a beginning of what came over the other,
+//! and all of it where that one ended.
+//!
+//! Uses mio and wire_stream. Used by proxy, shared_proxy, replay, bsonwire and test_server. Read
+//! first: `polling`, and then `acceptor`; of relays `way`, and then `relay`.
 #![tactic(auto)]
 
 mod acceptor;
@@ -16,8 +23,13 @@ mod due;
 mod failure;
 mod listening;
 mod polling;
+mod relay;
+pub mod relay_laws;
 mod standing;
 mod stdin;
+mod tap;
+mod turned;
+mod way;
 
 pub use acceptor::{ACCEPTS, Acceptor};
 pub use address::address_of;
@@ -27,5 +39,9 @@ pub use due::Due;
 pub use failure::IoFailure;
 pub use listening::{bind, tell_listening, tell_port};
 pub use polling::{EVENTS, LISTENER, STDIN, register, wait};
+pub use relay::Relay;
 pub use standing::WaitReason;
 pub use stdin::{Stdin, watch_stdin};
+pub use tap::{NoTap, Tap};
+pub use turned::{RelayFault, Turned};
+pub use way::EndSending;

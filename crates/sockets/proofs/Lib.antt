@@ -1,0 +1,4 @@
+pub mod Windows
+pub mod Ways
+pub mod RelayRuns
+pub mod Passed

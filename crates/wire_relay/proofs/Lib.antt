@@ -1,4 +1,0 @@
-pub mod Windows
-pub mod Ways
-pub mod Runs
-pub mod Passed
