@@ -4,12 +4,12 @@ use Rattle.std.specs.Prelude.{◌⊎◌, OnOk, flat_map, min}
 use Rattle.std.specs.Io.KnownBytes.{Appends, Keeps}
 use Rattle.std.proofs.KnownBytes.{Appends-trans}
 use Rattle.slab.specs.Slab.{Slab, Updates, get}
-use Rattle.wire_serve.specs.{IsGated, IsTurned, SeatSeen, Tells, new_seat}
+use Rattle.wire_serve.specs.{IsGated, IsTurned, SlotSeen, Tells, new_slot}
 use Rattle.wire_serve.specs.declared.turned.Leave.{Leave}
 use Rattle.wire_serve.specs.declared.turned.Turned.{Turned}
 use Rattle.wire_serve.specs.declared.turned.Turned.TheVariants as turns
-use Rattle.wire_serve.specs.declared.valve.Gate.{Gate}
-use Rattle.wire_serve.specs.declared.valve.Gate.TheVariants as gates
+use Rattle.wire_serve.specs.declared.gated_link.Gate.{Gate}
+use Rattle.wire_serve.specs.declared.gated_link.Gate.TheVariants as gates
 use Rattle.wire_peer.specs.{Does, Stops, log_of}
 use Rattle.wire_peer.specs.declared.log.Logged.{Logged}
 use Rattle.test_script.specs.{RuleView}
@@ -55,30 +55,30 @@ module _ {H L : Type 0} (does : Does H) (stops : Stops H) (t : Tells L) (gate : 
   rules_of s = s.replies.script.rules.items
 
   -- the connection goes on, and its link was steered
-  steers_on : (how : Turned) (key : ℕ) (flow : Option Flow) (old new : Slab (SeatSeen L)) → GoesOn how → IsSteered t gate (reply_flow (get old key) flow) key old new
+  steers_on : (how : Turned) (key : ℕ) (flow : Option Flow) (old new : Slab (SlotSeen L)) → GoesOn how → IsSteered t gate (reply_flow (get old key) flow) key old new
       → EndsTurn t gate key how flow old new []
   steers_on how key flow old new (inl is) steered = subst (λ w. EndsTurn t gate key w flow old new []) (sym is) (steered, refl)
   steers_on how key flow old new (inr is) steered = subst (λ w. EndsTurn t gate key w flow old new []) (sym is) (steered, refl)
 
   -- it is the same server with this log, this next number and these rules
-  next_is : (first : H) (script : List RuleView) (ended : ℕ) (seats : Slab (SeatSeen L)) (logged logged' : Logged H) (next next' : ℕ) (rules rules' : List RuleView) (text : List ℕ)
-      → logged ≡ logged' → next ≡ next' → rules ≡ rules' → Serves does stops t gate first script ended seats logged next rules text
-      → Serves does stops t gate first script ended seats logged' next' rules' text
-  next_is first script ended seats logged logged' next next' rules rules' text e e' e'' s =
-      subst (λ rs. Serves does stops t gate first script ended seats logged' next' rs text) e''
-      (subst (λ n. Serves does stops t gate first script ended seats logged' n rules text) e'
-      (subst (λ l. Serves does stops t gate first script ended seats l next rules text) e s))
+  next_is : (first : H) (script : List RuleView) (ended : ℕ) (slots : Slab (SlotSeen L)) (logged logged' : Logged H) (next next' : ℕ) (rules rules' : List RuleView) (text : List ℕ)
+      → logged ≡ logged' → next ≡ next' → rules ≡ rules' → Serves does stops t gate first script ended slots logged next rules text
+      → Serves does stops t gate first script ended slots logged' next' rules' text
+  next_is first script ended slots logged logged' next next' rules rules' text e e' e'' s =
+      subst (λ rs. Serves does stops t gate first script ended slots logged' next' rs text) e''
+      (subst (λ n. Serves does stops t gate first script ended slots logged' n rules text) e'
+      (subst (λ l. Serves does stops t gate first script ended slots l next rules text) e s))
 
   -- a connection was opened
-  pub opens : (old new : Serving L H) (key : ℕ) (link : L) (before after : Option (List ℕ)) → gate link ≡ gates.Open → get old.hall.seats key ≡ None
-      → Updates old.hall.seats new.hall.seats key (Some (new_seat old.hall.next link)) → new.hall.next ≡ old.hall.next + 1
-      → new.hall.logged ≡ old.hall.logged → rules_of new ≡ rules_of old → new.ended ≡ old.ended → Appends before after (new_text old.hall.next)
+  pub opens : (old new : Serving L H) (key : ℕ) (link : L) (before after : Option (List ℕ)) → gate link ≡ gates.Open → get old.conns.slots key ≡ None
+      → Updates old.conns.slots new.conns.slots key (Some (new_slot old.conns.next link)) → new.conns.next ≡ old.conns.next + 1
+      → new.conns.logged ≡ old.conns.logged → rules_of new ≡ rules_of old → new.ended ≡ old.ended → Appends before after (new_text old.conns.next)
       → ServesOn does stops t gate old new before after
   opens old new key link before after is_open free updates next logged rules ended written first script n text is = (
     n,
-    new_text old.hall.next,
+    new_text old.conns.next,
     record {
-      serves = next_is first script n new.hall.seats old.hall.logged new.hall.logged (suc old.hall.next) new.hall.next (rules_of old) (rules_of new) _ (sym logged) (omega (arith, next)) (sym rules)
+      serves = next_is first script n new.conns.slots old.conns.logged new.conns.logged (suc old.conns.next) new.conns.next (rules_of old) (rules_of new) _ (sym logged) (omega (arith, next)) (sym rules)
           (opened key link is.serves is_open free updates);
       counts = ended ∙ is.counts;
     },
@@ -86,11 +86,11 @@ module _ {H L : Type 0} (does : Does H) (stops : Stops H) (t : Tells L) (gate : 
   )
 
   -- a connection took a turn, and goes on
-  pub turns_on : (old new : Serving L H) (mid : Slab (SeatSeen L)) (made : Logged H) (key steps : ℕ) (how : Turned) (before after : Option (List ℕ)) → GoesOn how → IsStepped (rules_of old) steps
-      → IsTurned does stops t key steps (Some how) old.hall.seats old.hall.logged mid made → IsForgotten made new.hall.logged
-      → IsSteered t gate (reply_flow (get mid key) (last_flow None (rules_of old) (log_of made.entries.items))) key mid new.hall.seats
+  pub turns_on : (old new : Serving L H) (mid : Slab (SlotSeen L)) (made : Logged H) (key steps : ℕ) (how : Turned) (before after : Option (List ℕ)) → GoesOn how → IsStepped (rules_of old) steps
+      → IsTurned does stops t key steps (Some how) old.conns.slots old.conns.logged mid made → IsForgotten made new.conns.logged
+      → IsSteered t gate (reply_flow (get mid key) (last_flow None (rules_of old) (log_of made.entries.items))) key mid new.conns.slots
       → rules_of new ≡ rules_after (log_of made.entries.items) (rules_of old)
-      → new.hall.next ≡ old.hall.next → new.ended ≡ old.ended → Appends before after (flat_map told_text (log_of made.entries.items))
+      → new.conns.next ≡ old.conns.next → new.ended ≡ old.ended → Appends before after (flat_map told_text (log_of made.entries.items))
       → TakesTurn does stops t gate key how old new before after
   turns_on old new mid made key steps how before after goes stepped is_turned forgotten steered rules next ended written = record {
     told = flat_map told_text (log_of made.entries.items);
@@ -102,7 +102,7 @@ module _ {H L : Type 0} (does : Does H) (stops : Stops H) (t : Tells L) (gate : 
       turned = is_turned;
       forgotten = forgotten;
       line = [];
-      ends = steers_on how key _ mid new.hall.seats goes steered;
+      ends = steers_on how key _ mid new.conns.slots goes steered;
       moved = rules;
       text = sym (append-nil _);
     };
@@ -112,14 +112,14 @@ module _ {H L : Type 0} (does : Does H) (stops : Stops H) (t : Tells L) (gate : 
   }
 
   -- a connection took its last turn
-  pub turns_over : (old new : Serving L H) (mid : Slab (SeatSeen L)) (made : Logged H) (key steps : ℕ) (how : Turned) (leave : Leave) (seat : SeatSeen L) (a b c : Option (List ℕ)) → IsStepped (rules_of old) steps
-      → how ≡ turns.Over leave → IsTurned does stops t key steps (Some how) old.hall.seats old.hall.logged mid made → IsForgotten made new.hall.logged
-      → get mid key ≡ Some seat → Updates mid new.hall.seats key None → rules_of new ≡ rules_after (log_of made.entries.items) (rules_of old)
-      → new.hall.next ≡ old.hall.next → new.ended ≡ min (old.ended + 1) 18446744073709551615
-      → Appends a b (flat_map told_text (log_of made.entries.items)) → Appends b c (end_text seat.front.server.connection leave)
+  pub turns_over : (old new : Serving L H) (mid : Slab (SlotSeen L)) (made : Logged H) (key steps : ℕ) (how : Turned) (leave : Leave) (slot : SlotSeen L) (a b c : Option (List ℕ)) → IsStepped (rules_of old) steps
+      → how ≡ turns.Over leave → IsTurned does stops t key steps (Some how) old.conns.slots old.conns.logged mid made → IsForgotten made new.conns.logged
+      → get mid key ≡ Some slot → Updates mid new.conns.slots key None → rules_of new ≡ rules_after (log_of made.entries.items) (rules_of old)
+      → new.conns.next ≡ old.conns.next → new.ended ≡ min (old.ended + 1) 18446744073709551615
+      → Appends a b (flat_map told_text (log_of made.entries.items)) → Appends b c (end_text slot.conn.server.connection leave)
       → TakesTurn does stops t gate key how old new a c
-  turns_over old new mid made key steps how leave seat a b c stepped is is_turned forgotten there updates rules next ended told written = record {
-    told = flat_map told_text (log_of made.entries.items) ++ end_text seat.front.server.connection leave;
+  turns_over old new mid made key steps how leave slot a b c stepped is is_turned forgotten there updates rules next ended told written = record {
+    told = flat_map told_text (log_of made.entries.items) ++ end_text slot.conn.server.connection leave;
     turn = record {
       steps = steps;
       few = stepped;
@@ -127,8 +127,8 @@ module _ {H L : Type 0} (does : Does H) (stops : Stops H) (t : Tells L) (gate : 
       made = made;
       turned = is_turned;
       forgotten = forgotten;
-      line = end_text seat.front.server.connection leave;
-      ends = subst (λ w. EndsTurn t gate key w (last_flow None (rules_of old) (log_of made.entries.items)) mid new.hall.seats (end_text seat.front.server.connection leave)) (sym is) (seat, there, updates, refl);
+      line = end_text slot.conn.server.connection leave;
+      ends = subst (λ w. EndsTurn t gate key w (last_flow None (rules_of old) (log_of made.entries.items)) mid new.conns.slots (end_text slot.conn.server.connection leave)) (sym is) (slot, there, updates, refl);
       moved = rules;
       text = refl;
     };
@@ -144,7 +144,7 @@ module _ {H L : Type 0} (does : Does H) (stops : Stops H) (t : Tells L) (gate : 
     ended_after how n,
     turn.told,
     record {
-      serves = next_is first script (ended_after how n) new.hall.seats new.hall.logged new.hall.logged old.hall.next new.hall.next (rules_of new) (rules_of new) _ refl (sym turn.next) refl
+      serves = next_is first script (ended_after how n) new.conns.slots new.conns.logged new.conns.logged old.conns.next new.conns.next (rules_of new) (rules_of new) _ refl (sym turn.next) refl
           (took key how is.serves turn.turn);
       counts = counts_turn how n old.ended new.ended is.counts turn.ended;
     },
@@ -152,7 +152,7 @@ module _ {H L : Type 0} (does : Does H) (stops : Stops H) (t : Tells L) (gate : 
   )
 
   -- the link of a connection that put out a reply has the gate that this wants
-  pub steered_by : (flow : Option Flow) (f : Flow) (key : ℕ) (s : SeatSeen L) (is_there : Bool) (old new : Slab (SeatSeen L)) → flow ≡ Some f → get old key ≡ Some s
+  pub steered_by : (flow : Option Flow) (f : Flow) (key : ℕ) (s : SlotSeen L) (is_there : Bool) (old new : Slab (SlotSeen L)) → flow ≡ Some f → get old key ≡ Some s
       → IsGated t gate key (gate_after f (gate s.link)) is_there old new → IsSteered t gate flow key old new
   steered_by flow f key s true old new is at gated = subst (λ o. IsSteered t gate o key old new) (sym is) (s, at, gated)
   steered_by flow f key s false old new is at gated = let none = gated.0 in absurd cc
@@ -163,7 +163,7 @@ module _ {H L : Type 0} (does : Does H) (stops : Stops H) (t : Tells L) (gate : 
     n,
     [],
     record {
-      serves = subst (λ x. Serves does stops t gate first script n s.hall.seats s.hall.logged s.hall.next (rules_of s) x) (sym (append-nil text)) is.serves;
+      serves = subst (λ x. Serves does stops t gate first script n s.conns.slots s.conns.logged s.conns.next (rules_of s) x) (sym (append-nil text)) is.serves;
       counts = is.counts;
     },
     kept_bytes before after keeps,
@@ -177,7 +177,7 @@ module _ {H L : Type 0} (does : Does H) (stops : Stops H) (t : Tells L) (gate : 
         two.0,
         one.1 ++ two.1,
         record {
-          serves = subst (λ x. Serves does stops t gate first script two.0 new.hall.seats new.hall.logged new.hall.next (rules_of new) x) (append_assoc text one.1 two.1) two.2.serves;
+          serves = subst (λ x. Serves does stops t gate first script two.0 new.conns.slots new.conns.logged new.conns.next (rules_of new) x) (append_assoc text one.1 two.1) two.2.serves;
           counts = two.2.counts;
         },
         Appends-trans _ _ _ _ _ one.3 two.3,

@@ -3,8 +3,8 @@ use Rattle.std.specs.Prelude.{◌≡◌, List, [], ◌∷◌, Option, None, Some
 use Rattle.test_script.specs.declared.action.Flow.{Flow}
 use Rattle.test_script.specs.declared.action.Flow.TheVariants as flows
 use Rattle.test_script.specs.{RuleView, after, flow_by, met}
-use Rattle.wire_serve.specs.declared.valve.Gate.{Gate}
-use Rattle.wire_serve.specs.declared.valve.Gate.TheVariants as gates
+use Rattle.wire_serve.specs.declared.gated_link.Gate.{Gate}
+use Rattle.wire_serve.specs.declared.gated_link.Gate.TheVariants as gates
 use Rattle.wire_peer.specs.{LogEntry}
 use Rattle.bsonserver.specs.declared.reply_rules.ReplyRules.{ReplyRules}
 

@@ -14,7 +14,7 @@ use Rattle.test_script.specs.declared.fault.ScriptFault.{ScriptFault}
 use Rattle.test_script.specs.declared.scripted.Scripted.{Scripted}
 use Rattle.test_store.specs.declared.store.Store.{Store}
 use Rattle.wire_serve.specs.{Tells, tells}
-use Rattle.wire_serve.specs.declared.valve.Valve.{Valve}
+use Rattle.wire_serve.specs.declared.gated_link.GatedLink.{GatedLink}
 use Rattle.wire_stream.specs.declared.tcp_link.TcpLink.{TcpLink}
 use Rattle.bsonserver.specs.declared.choice.Choice.{Choice}
 use Rattle.bsonserver.specs.declared.edge_triggered.EdgeTriggered.{EdgeTriggered}
@@ -30,14 +30,14 @@ served_line count = codes "served " ++ (decimal count ++ codes "\n")
 
 -- What a gate before a link over a socket tells: no bytes, since no contract says what a socket
 -- carries.
-abbrev pub socket_tells : Tells (Valve (TcpLink (EdgeTriggered TcpStream)))
+abbrev pub socket_tells : Tells (GatedLink (TcpLink (EdgeTriggered TcpStream)))
 socket_tells =
     tells (λ valve. None) (λ valve. None) (λ valve. valve.link.ends) (λ valve. valve.link.waits)
     (λ valve. valve.failures)
 
 -- the connections of the program
 abbrev pub Connected : Type 0
-Connected = Serving (Valve (TcpLink (EdgeTriggered TcpStream))) (Scripted Store)
+Connected = Serving (GatedLink (TcpLink (EdgeTriggered TcpStream))) (Scripted Store)
 
 -- what is written of a transcript: nothing by a quiet server
 abbrev pub shown : (quiet : Bool) → List ℕ → List ℕ

@@ -5,14 +5,14 @@ use Rattle.std.specs.Io.KnownBytes.{Appends}
 use Rattle.slab.specs.Slab.{Slab, Updates, get}
 use Rattle.test_script.specs.declared.action.Flow.{Flow}
 use Rattle.test_script.specs.{RuleView}
-use Rattle.wire_serve.specs.declared.cause.FrontCause.TheVariants as fronts
-use Rattle.wire_serve.specs.{IsGated, IsTurned, SeatSeen, Tells, new_seat}
+use Rattle.wire_serve.specs.declared.cause.CloseCause.TheVariants as close_causes
+use Rattle.wire_serve.specs.{IsGated, IsTurned, SlotSeen, Tells, new_slot}
 use Rattle.wire_serve.specs.declared.turned.Leave.{Leave}
 use Rattle.wire_serve.specs.declared.turned.Leave.TheVariants as leaves
 use Rattle.wire_serve.specs.declared.turned.Turned.{Turned}
 use Rattle.wire_serve.specs.declared.turned.Turned.TheVariants as turns
-use Rattle.wire_serve.specs.declared.valve.Gate.{Gate}
-use Rattle.wire_serve.specs.declared.valve.Gate.TheVariants as gates
+use Rattle.wire_serve.specs.declared.gated_link.Gate.{Gate}
+use Rattle.wire_serve.specs.declared.gated_link.Gate.TheVariants as gates
 use Rattle.wire_peer.specs.{Does, Stops, log_of}
 use Rattle.wire_peer.specs.declared.log.Logged.{Logged}
 use Rattle.wire_peer.specs.declared.server_state.ServerCause.TheVariants as causes
@@ -25,8 +25,8 @@ use Rattle.bsonserver.specs.Transcript.{end_text, new_text, told_text}
 -- the server stops after a connection that ran out of memory, and after no other
 abbrev pub settled : Leave → Result (Unit {0}) Stop
 settled leaves.OutOfMemory = Err stopped.OutOfMemory
-settled (leaves.Closed fronts.NoMemory) = Err stopped.OutOfMemory
-settled (leaves.Closed (fronts.Server causes.NoMemory)) = Err stopped.OutOfMemory
+settled (leaves.Closed close_causes.NoMemory) = Err stopped.OutOfMemory
+settled (leaves.Closed (close_causes.Server causes.NoMemory)) = Err stopped.OutOfMemory
 settled leave = Ok tt
 
 -- ---- what becomes of replies
@@ -47,18 +47,18 @@ abbrev pub output_flow : (output : List ℕ) → Option Flow → Option Flow
 output_flow [] flow = None
 output_flow (byte ∷ bytes) flow = flow
 
--- what becomes of the reply that waits at this seat, where it is the one that was put out last
-abbrev pub reply_flow : {L : Type 0} → Option (SeatSeen L) → Option Flow → Option Flow
+-- what becomes of the reply that waits at this slot, where it is the one that was put out last
+abbrev pub reply_flow : {L : Type 0} → Option (SlotSeen L) → Option Flow → Option Flow
 reply_flow None flow = None
-reply_flow (Some seat) flow = output_flow seat.front.output flow
+reply_flow (Some slot) flow = output_flow slot.conn.output flow
 
 -- What becomes of the link of this connection before its next turn, by the flow of the reply that
 -- it put out last: it moves no byte, and has that gate. If it put out none, nothing is done.
 abbrev pub IsSteered : {L : Type 0} → Tells L → (L → Gate) → Option Flow → (key : ℕ)
-    → Slab (SeatSeen L) → Slab (SeatSeen L) → Type 0
+    → Slab (SlotSeen L) → Slab (SlotSeen L) → Type 0
 IsSteered t gate None key old new = new ≡ old
 IsSteered {L} t gate (Some flow) key old new =
-    (s : SeatSeen L) × (get old key ≡ Some s)
+    (s : SlotSeen L) × (get old key ≡ Some s)
     × IsGated t gate key (gate_after flow (gate s.link)) true old new
 
 -- ---- turns
@@ -70,10 +70,10 @@ IsForgotten old new = (log_of new.entries.items ≡ []) × (new.handler ≡ old.
 -- What is done with the connection after a turn that came to this, and the line of that: one that
 -- is over is forgotten, and its end is told, while the link of another one is steered by its reply.
 abbrev pub EndsTurn : {L : Type 0} → Tells L → (L → Gate) → (key : ℕ) → Turned → Option Flow
-    → Slab (SeatSeen L) → Slab (SeatSeen L) → (line : List ℕ) → Type 0
+    → Slab (SlotSeen L) → Slab (SlotSeen L) → (line : List ℕ) → Type 0
 EndsTurn {L} t gate key (turns.Over leave) flow old new line =
-    (seat : SeatSeen L) × (get old key ≡ Some seat) × Updates old new key None
-    × (line ≡ end_text seat.front.server.connection leave)
+    (slot : SlotSeen L) × (get old key ≡ Some slot) × Updates old new key None
+    × (line ≡ end_text slot.conn.server.connection leave)
 EndsTurn t gate key turned flow old new line =
     IsSteered t gate (reply_flow (get old key) flow) key old new × (line ≡ [])
 
@@ -81,12 +81,12 @@ EndsTurn t gate key turned flow old new line =
 -- and rules, and this is told of it. With rules the turn was a single step. The entries that it
 -- made are told and forgotten, and their requests move the rules on, one after another.
 pub record IsTurnTaken {H L : Type 0} (does : Does H) (stops : Stops H) (t : Tells L)
-    (gate : L → Gate) (key : ℕ) (how : Turned) (old : Slab (SeatSeen L)) (from : Logged H)
-    (rules : List RuleView) (new : Slab (SeatSeen L)) (to : Logged H) (after : List RuleView)
+    (gate : L → Gate) (key : ℕ) (how : Turned) (old : Slab (SlotSeen L)) (from : Logged H)
+    (rules : List RuleView) (new : Slab (SlotSeen L)) (to : Logged H) (after : List RuleView)
     (told : List ℕ) : Type 0 where
   pub steps : ℕ
   pub few : IsStepped rules steps
-  pub mid : Slab (SeatSeen L)
+  pub mid : Slab (SlotSeen L)
   pub made : Logged H
   pub turned : IsTurned does stops t key steps (Some how) old from mid made
   pub forgotten : IsForgotten made to
@@ -110,10 +110,10 @@ pub record TakesTurn {H L : Type 0} (does : Does H) (stops : Stops H) (t : Tells
     (gate : L → Gate) (key : ℕ) (how : Turned) (old new : Serving L H)
     (before after : Option (List ℕ)) : Type 0 where
   pub told : List ℕ
-  pub turn : IsTurnTaken does stops t gate key how old.hall.seats old.hall.logged
-      old.replies.script.rules.items new.hall.seats new.hall.logged
+  pub turn : IsTurnTaken does stops t gate key how old.conns.slots old.conns.logged
+      old.replies.script.rules.items new.conns.slots new.conns.logged
       new.replies.script.rules.items told
-  pub next : new.hall.next ≡ old.hall.next
+  pub next : new.conns.next ≡ old.conns.next
   pub ended : new.ended ≡ counted_after how old.ended
   pub written : Appends before after told
 
@@ -124,19 +124,19 @@ pub record TakesTurn {H L : Type 0} (does : Does H) (stops : Stops H) (t : Tells
 -- of a script. Then connections were opened, over links whose gates were open, and took turns. The
 -- gate that a reply is to go through stands before its connection takes another turn.
 pub data Serves {H L : Type 0} (does : Does H) (stops : Stops H) (t : Tells L) (gate : L → Gate)
-    (first : H) (script : List RuleView) : (ended : ℕ) → Slab (SeatSeen L) → Logged H
+    (first : H) (script : List RuleView) : (ended : ℕ) → Slab (SlotSeen L) → Logged H
     → (next : ℕ) → (rules : List RuleView) → (text : List ℕ) → Type 0 where
-  begun : {seats : Slab (SeatSeen L)} {logged : Logged H} → ((key : ℕ) → get seats key ≡ None)
+  begun : {slots : Slab (SlotSeen L)} {logged : Logged H} → ((key : ℕ) → get slots key ≡ None)
       → log_of logged.entries.items ≡ [] → logged.handler ≡ first
-      → Serves does stops t gate first script 0 seats logged 1 script []
-  opened : {ended next : ℕ} {old new : Slab (SeatSeen L)} {logged : Logged H}
+      → Serves does stops t gate first script 0 slots logged 1 script []
+  opened : {ended next : ℕ} {old new : Slab (SlotSeen L)} {logged : Logged H}
       {rules : List RuleView} {text : List ℕ} (key : ℕ) (link : L)
       → Serves does stops t gate first script ended old logged next rules text
       → gate link ≡ gates.Open → get old key ≡ None
-      → Updates old new key (Some (new_seat next link))
+      → Updates old new key (Some (new_slot next link))
       → Serves does stops t gate first script ended new logged (suc next) rules
       (text ++ new_text next)
-  took : {ended next : ℕ} {old new : Slab (SeatSeen L)} {from to : Logged H}
+  took : {ended next : ℕ} {old new : Slab (SlotSeen L)} {from to : Logged H}
       {rules after : List RuleView} {text told : List ℕ} (key : ℕ) (how : Turned)
       → Serves does stops t gate first script ended old from next rules text
       → IsTurnTaken does stops t gate key how old from rules new to after told
@@ -148,7 +148,7 @@ pub data Serves {H L : Type 0} (does : Does H) (stops : Stops H) (t : Tells L) (
 pub record IsServing {H L : Type 0} (does : Does H) (stops : Stops H) (t : Tells L)
     (gate : L → Gate) (first : H) (script : List RuleView) (s : Serving L H) (ended : ℕ)
     (text : List ℕ) : Type 0 where
-  pub serves : Serves does stops t gate first script ended s.hall.seats s.hall.logged s.hall.next
+  pub serves : Serves does stops t gate first script ended s.conns.slots s.conns.logged s.conns.next
       s.replies.script.rules.items text
   pub counts : s.ended ≡ min ended 18446744073709551615
 

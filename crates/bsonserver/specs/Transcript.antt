@@ -6,8 +6,8 @@ use Rattle.bson_text.specs.{document_text, quoted}
 use Rattle.wire_msg.specs.{Content, fault_text}
 use Rattle.wire_text.specs.{text_of_sequence}
 use Rattle.wire_text.specs.declared.messages.Detail.TheVariants.{Line}
-use Rattle.wire_serve.specs.declared.cause.FrontCause.{FrontCause}
-use Rattle.wire_serve.specs.declared.cause.FrontCause.TheVariants as fronts
+use Rattle.wire_serve.specs.declared.cause.CloseCause.{CloseCause}
+use Rattle.wire_serve.specs.declared.cause.CloseCause.TheVariants as close_causes
 use Rattle.wire_serve.specs.declared.turned.Leave.{Leave}
 use Rattle.wire_serve.specs.declared.turned.Leave.TheVariants as leaves
 use Rattle.wire_peer.specs.declared.server_state.ServerCause.{ServerCause}
@@ -56,13 +56,13 @@ server_cause_text causes.ReplyTooLarge = codes "ReplyTooLarge\n"
 server_cause_text causes.NoMemory = codes "OutOfMemory\n"
 server_cause_text causes.HandlerFailed = codes "HandlerFailed\n"
 
-abbrev pub cause_text : FrontCause → List ℕ
-cause_text (fronts.Server cause) = server_cause_text cause
-cause_text (fronts.Query f) = query_fault_text f.at f.cause ++ codes "\n"
-cause_text fronts.EndedInside = codes "EndedInside\n"
-cause_text fronts.NotAlone = codes "NotAlone\n"
-cause_text fronts.ReplyTooLarge = codes "ReplyTooLarge\n"
-cause_text fronts.NoMemory = codes "OutOfMemory\n"
+abbrev pub cause_text : CloseCause → List ℕ
+cause_text (close_causes.Server cause) = server_cause_text cause
+cause_text (close_causes.Query f) = query_fault_text f.at f.cause ++ codes "\n"
+cause_text close_causes.EndedInside = codes "EndedInside\n"
+cause_text close_causes.NotAlone = codes "NotAlone\n"
+cause_text close_causes.ReplyTooLarge = codes "ReplyTooLarge\n"
+cause_text close_causes.NoMemory = codes "OutOfMemory\n"
 
 abbrev pub leave_text : Leave → List ℕ
 leave_text (leaves.Closed cause) = cause_text cause

@@ -18,11 +18,11 @@ use std::io::Write;
 use std::time::Clock;
 use test_script::{Flow, Scripted};
 use test_store::Store;
-use wire_serve::{Turned, Valve};
+use wire_serve::{GatedLink, Turned};
 use wire_stream::TcpLink;
 
 /// The connections of the program: over sockets, by the rules of a script before a store.
-pub type Connected = Serving<Valve<TcpLink<EdgeTriggered<TcpStream>>>, Scripted<Store>>;
+pub type Connected = Serving<GatedLink<TcpLink<EdgeTriggered<TcpStream>>>, Scripted<Store>>;
 
 /// Begins without connections, with the rules of the script before a store without documents. Those
 /// of `replies`, which are the same, say what becomes of replies.
@@ -54,7 +54,7 @@ fn accept_one<W: Write>(
         (W.contents out.old) (W.contents out.new)) }
 {
     match event_loop.accept(serving.len() < ROOM, serving.next_key())? {
-        Some(stream) => serving.open(Valve::new(TcpLink::new(stream)), out),
+        Some(stream) => serving.open(GatedLink::new(TcpLink::new(stream)), out),
         None => Ok(()),
     }
 }

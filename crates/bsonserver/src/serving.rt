@@ -1,11 +1,11 @@
-//! Serves the connections of a hall, and writes what they ask and how they end.
+//! Serves connections, and writes what they ask and how they end.
 
 ghost use Rattle.std.specs.Prelude.{◌≡◌, ◌↔◌, ◌+◌, [], IfOk, IfSome, IsTrue, None, Ok, OnOk, Some};
 ghost use Rattle.std.specs.Prelude.{flat_map, min};
 ghost use Rattle.slab.specs.Slab.{Updates, get, slab_len};
 ghost use Rattle.std.specs.Io.KnownBytes.{Keeps};
 ghost use Rattle.text_writer.specs.{WritesOut};
-ghost use Rattle.wire_serve.specs.{SeatSeen, tells};
+ghost use Rattle.wire_serve.specs.{SlotSeen, tells};
 ghost use Rattle.wire_peer.specs.{log_of};
 ghost use Rattle.bsonserver.specs.Serving.{IsServing, IsSteered, IsStepped, ServesOn, TakesTurn};
 ghost use Rattle.bsonserver.specs.Serving.{gate_after, reply_flow, settled};
@@ -19,7 +19,7 @@ use std::alloc::Global;
 use std::io::Write;
 use test_script::Flow;
 use wire_peer::{Handler, ServerCause};
-use wire_serve::{FrontCause, Gate, Gated, Hall, Leave, Turned};
+use wire_serve::{CloseCause, Connections, Gate, Gated, Leave, Turned};
 use wire_stream::Link;
 
 /// The most steps of a turn.
@@ -31,21 +31,21 @@ pub const ANSWER_STEPS: u32 = 4;
 
 /// Writes the entries that were made, in order, and forgets them.
 fn tell<L: Link + Drop, H: Handler + Drop, W: Output>(
-    hall: &mut Hall<L, H>,
+    conns: &mut Connections<L, H>,
     out: &mut W,
 ) -> Result<(), Stop>
     ensures told { OnOk result (WritesOut W.contents out.old out.new
-        (flat_map told_text (log_of hall.old.logged.entries.items))) }
-    ensures forgotten { OnOk result (log_of hall.new.logged.entries.items ≡ []) }
-    ensures handler { hall.new.logged.handler ≡ hall.old.logged.handler }
-    ensures seats { hall.new.seats ≡ hall.old.seats }
-    ensures next { hall.new.next ≡ hall.old.next }
+        (flat_map told_text (log_of conns.old.logged.entries.items))) }
+    ensures forgotten { OnOk result (log_of conns.new.logged.entries.items ≡ []) }
+    ensures handler { conns.new.logged.handler ≡ conns.old.logged.handler }
+    ensures slots { conns.new.slots ≡ conns.old.slots }
+    ensures next { conns.new.next ≡ conns.old.next }
 {
     if !out.is_sink() {
-        write_entries(hall.entries(), out).map_err(Stop::Output)?;
+        write_entries(conns.entries(), out).map_err(Stop::Output)?;
     }
-    let told = hall.entries().len();
-    hall.forget(told);
+    let told = conns.entries().len();
+    conns.forget(told);
     Ok(())
 }
 
@@ -55,7 +55,7 @@ pub fn settle(leave: Leave) -> Result<(), Stop>
 {
     match leave {
         Leave::OutOfMemory
-        | Leave::Closed(FrontCause::NoMemory | FrontCause::Server(ServerCause::NoMemory)) => {
+        | Leave::Closed(CloseCause::NoMemory | CloseCause::Server(ServerCause::NoMemory)) => {
             Err(Stop::OutOfMemory)
         }
         _ => Ok(()),
@@ -75,7 +75,7 @@ fn gate_after(flow: Flow, gate: Gate) -> Gate
 /// The connections that are served, how many ended, and the rules of what becomes of replies.
 #[derive(Drop)]
 pub struct Serving<L, H> {
-    hall: Hall<L, H>,
+    conns: Connections<L, H>,
     ended: u64,
     replies: ReplyRules,
 }
@@ -88,7 +88,7 @@ impl<L: Gated + Drop, H: Handler + Drop> Serving<L, H> {
             replies.script.rules.items result 0 [] }
     {
         Serving {
-            hall: Hall::new(alloc, handler),
+            conns: Connections::new(alloc, handler),
             ended: 0,
             replies,
         }
@@ -96,9 +96,9 @@ impl<L: Gated + Drop, H: Handler + Drop> Serving<L, H> {
 
     /// Returns how many connections are open.
     pub fn len(&self) -> usize
-        ensures { result ≡ slab_len self.now.hall.seats }
+        ensures { result ≡ slab_len self.now.conns.slots }
     {
-        self.hall.len()
+        self.conns.len()
     }
 
     /// Returns how many connections ended, counted up to 2^64 - 1.
@@ -118,19 +118,19 @@ impl<L: Gated + Drop, H: Handler + Drop> Serving<L, H> {
     /// Returns what becomes of the reply that the connection of this key put out in the last turn,
     /// if that was its turn, and it put one out and has it to send.
     pub fn flow(&self, key: usize) -> Option<Flow>
-        ensures { result ≡ reply_flow (get self.now.hall.seats key) self.now.replies.flow }
+        ensures { result ≡ reply_flow (get self.now.conns.slots key) self.now.replies.flow }
     {
-        match self.hall.seat(key) {
-            Some(seat) if !seat.output().is_empty() => self.replies.flow(),
+        match self.conns.slot(key) {
+            Some(slot) if !slot.output().is_empty() => self.replies.flow(),
             _ => None,
         }
     }
 
     /// Returns the key that the next connection has.
     pub fn next_key(&self) -> usize
-        ensures { result ≡ self.now.hall.seats.vacant_key }
+        ensures { result ≡ self.now.conns.slots.vacant_key }
     {
-        self.hall.next_key()
+        self.conns.next_key()
     }
 
     /// Returns how many steps a turn has that may have `most`: one where there are rules.
@@ -148,13 +148,13 @@ impl<L: Gated + Drop, H: Handler + Drop> Serving<L, H> {
     /// fails.
     pub fn open<W: Write>(&mut self, link: L, out: &mut W) -> Result<(), Stop>
         requires { L.gate link ≡ Gate.Open }
-        ensures opened { OnOk result (self.new.hall.next ≡ self.old.hall.next + 1) }
+        ensures opened { OnOk result (self.new.conns.next ≡ self.old.conns.next + 1) }
         ensures served { OnOk result (ServesOn H.does H.stops
             (tells L.received L.sent L.ends L.waits L.failures) L.gate
             self.old self.new (W.contents out.old) (W.contents out.new)) }
     {
-        let number = self.hall.next_number();
-        let Ok(_key) = self.hall.open(link) else {
+        let number = self.conns.next_number();
+        let Ok(_key) = self.conns.open(link) else {
             return Err(Stop::OutOfMemory);
         };
         match write_new(number, out) {
@@ -165,21 +165,21 @@ impl<L: Gated + Drop, H: Handler + Drop> Serving<L, H> {
 
     /// Forgets the connection of this key, which is over, and writes its last line.
     fn close<W: Write>(&mut self, key: usize, leave: Leave, out: &mut W) -> Result<(), Stop>
-        ensures told { (seat : SeatSeen L) → get self.old.hall.seats key ≡ Some seat
+        ensures told { (slot : SlotSeen L) → get self.old.conns.slots key ≡ Some slot
             → OnOk result (WritesOut W.contents out.old out.new
-            (end_text seat.front.server.connection leave)) }
-        ensures seats { Updates self.old.hall.seats self.new.hall.seats key None }
-        ensures logged { self.new.hall.logged ≡ self.old.hall.logged }
-        ensures next { self.new.hall.next ≡ self.old.hall.next }
+            (end_text slot.conn.server.connection leave)) }
+        ensures slots { Updates self.old.conns.slots self.new.conns.slots key None }
+        ensures logged { self.new.conns.logged ≡ self.old.conns.logged }
+        ensures next { self.new.conns.next ≡ self.old.conns.next }
         ensures replies { self.new.replies ≡ self.old.replies }
-        ensures ended { (seat : SeatSeen L) → get self.old.hall.seats key ≡ Some seat
+        ensures ended { (slot : SlotSeen L) → get self.old.conns.slots key ≡ Some slot
             → self.new.ended ≡ min (self.old.ended + 1) 18446744073709551615 }
     {
-        let number = match self.hall.seat(key) {
-            Some(seat) => seat.connection(),
+        let number = match self.conns.slot(key) {
+            Some(slot) => slot.connection(),
             None => return Ok(()),
         };
-        self.hall.close(key);
+        self.conns.close(key);
         self.ended = self.ended.saturating_add(1);
         write_end(number, leave, out).map_err(Stop::Output)
     }
@@ -188,21 +188,21 @@ impl<L: Gated + Drop, H: Handler + Drop> Serving<L, H> {
     /// one out. What was cut stays cut.
     fn steer(&mut self, key: usize)
         ensures steered { IsSteered (tells L.received L.sent L.ends L.waits L.failures) L.gate
-            (reply_flow (get self.old.hall.seats key) self.old.replies.flow) key
-            self.old.hall.seats self.new.hall.seats }
-        ensures logged { self.new.hall.logged ≡ self.old.hall.logged }
-        ensures next { self.new.hall.next ≡ self.old.hall.next }
+            (reply_flow (get self.old.conns.slots key) self.old.replies.flow) key
+            self.old.conns.slots self.new.conns.slots }
+        ensures logged { self.new.conns.logged ≡ self.old.conns.logged }
+        ensures next { self.new.conns.next ≡ self.old.conns.next }
         ensures replies { self.new.replies ≡ self.old.replies }
         ensures ended { self.new.ended ≡ self.old.ended }
     {
         let Some(flow) = self.flow(key) else {
             return;
         };
-        let gate = match self.hall.seat(key) {
-            Some(seat) => seat.link().gate(),
+        let gate = match self.conns.slot(key) {
+            Some(slot) => slot.link().gate(),
             None => return,
         };
-        self.hall.set_gate(key, gate_after(flow, gate));
+        self.conns.set_gate(key, gate_after(flow, gate));
     }
 
     /// Has the connection of this key take a turn of at most `most` steps, which is a single one
@@ -219,9 +219,9 @@ impl<L: Gated + Drop, H: Handler + Drop> Serving<L, H> {
         most: u32,
         out: &mut W,
     ) -> Result<Option<Turned>, Stop>
-        ensures none { result ≡ Ok None → (get self.old.hall.seats key ≡ None)
-            × (self.new.hall.seats ≡ self.old.hall.seats)
-            × (self.new.hall.logged ≡ self.old.hall.logged) × (self.new.ended ≡ self.old.ended)
+        ensures none { result ≡ Ok None → (get self.old.conns.slots key ≡ None)
+            × (self.new.conns.slots ≡ self.old.conns.slots)
+            × (self.new.conns.logged ≡ self.old.conns.logged) × (self.new.ended ≡ self.old.ended)
             × Keeps (W.contents out.old) (W.contents out.new) }
         ensures turned { IfOk result (λ o. IfSome o (λ how. TakesTurn H.does H.stops
             (tells L.received L.sent L.ends L.waits L.failures) L.gate key how
@@ -231,13 +231,13 @@ impl<L: Gated + Drop, H: Handler + Drop> Serving<L, H> {
             self.old self.new (W.contents out.old) (W.contents out.new)) }
     {
         let steps = self.steps(most);
-        let Some(turned) = self.hall.turn(key, steps) else {
+        let Some(turned) = self.conns.turn(key, steps) else {
             return Ok(None);
         };
-        let Ok(()) = self.replies.follow(self.hall.entries()) else {
+        let Ok(()) = self.replies.follow(self.conns.entries()) else {
             return Err(Stop::OutOfMemory);
         };
-        tell(&mut self.hall, out)?;
+        tell(&mut self.conns, out)?;
         match turned {
             Turned::Over(leave) => {
                 self.close(key, leave, out)?;

@@ -15,7 +15,7 @@ use std::io;
 use std::io::Write;
 use wire_msg::{Payload, PayloadBuf};
 use wire_peer::{Entry, Outcome, ServerCause};
-use wire_serve::{FrontCause, Leave};
+use wire_serve::{CloseCause, Leave};
 use wire_text::{Detail, write_sequences};
 
 /// Writes the text of a body, and the line of each sequence.
@@ -130,17 +130,17 @@ fn write_server_cause<W: Write>(cause: ServerCause, out: &mut W) -> io::Result<(
     }
 }
 
-/// Writes why a front closed.
-fn write_cause<W: Write>(cause: FrontCause, out: &mut W) -> io::Result<()>
+/// Writes why a server connection closed.
+fn write_cause<W: Write>(cause: CloseCause, out: &mut W) -> io::Result<()>
     ensures { OnOk result (WritesOut W.contents out.old out.new (cause_text cause)) }
 {
     match cause {
-        FrontCause::Server(cause) => write_server_cause(cause, out),
-        FrontCause::Query(fault) => writeln!(out, "{fault}"),
-        FrontCause::EndedInside => out.write_all(b"EndedInside\n"),
-        FrontCause::NotAlone => out.write_all(b"NotAlone\n"),
-        FrontCause::ReplyTooLarge => out.write_all(b"ReplyTooLarge\n"),
-        FrontCause::NoMemory => out.write_all(b"OutOfMemory\n"),
+        CloseCause::Server(cause) => write_server_cause(cause, out),
+        CloseCause::Query(fault) => writeln!(out, "{fault}"),
+        CloseCause::EndedInside => out.write_all(b"EndedInside\n"),
+        CloseCause::NotAlone => out.write_all(b"NotAlone\n"),
+        CloseCause::ReplyTooLarge => out.write_all(b"ReplyTooLarge\n"),
+        CloseCause::NoMemory => out.write_all(b"OutOfMemory\n"),
     }
 }
 

@@ -192,7 +192,7 @@ impl Client {
     fn standing(&self) -> Option<Step>
         ensures { self.now.leaving ≡ true → IsSome result }
     {
-        if let Some(leave) = Leave::of_front(self.downstream.state()) {
+        if let Some(leave) = Leave::of_state(self.downstream.state()) {
             return Some(Step::Over(leave));
         }
         if self.leaving {

@@ -40,7 +40,7 @@ pub fn begun(downstream: &Downstream) -> Option<SessionId> {
 
 /// Returns true if the downstream is closed since memory ran out.
 fn wants_memory(downstream: &Downstream) -> bool {
-    Leave::of_front(downstream.state()).is_some_and(|leave| leave.wants_memory())
+    Leave::of_state(downstream.state()).is_some_and(|leave| leave.wants_memory())
 }
 
 /// Passes the request that waits on to the server, and notes who awaits the reply. Returns why the
@@ -107,7 +107,7 @@ pub fn answer(
     }
     match server.answer(&mut client.downstream) {
         Ok(()) if wants_memory(&client.downstream) => Err(AllocError),
-        Ok(()) => Ok(Leave::of_front(client.downstream.state()).is_none()),
+        Ok(()) => Ok(Leave::of_state(client.downstream.state()).is_none()),
         Err(GiveRefusal::NotAwaited | GiveRefusal::Closed) => {
             server.release();
             Ok(false)

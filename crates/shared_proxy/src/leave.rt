@@ -5,7 +5,7 @@ use sockets::{IoFailure, RelayFault};
 use std::fmt;
 use std::io::ErrorKind;
 use wire_peer::{CallRefusal, ClientCause, ClientState, ServerCause};
-use wire_serve::{FrontCause, FrontState};
+use wire_serve::{CloseCause, ConnState};
 use wire_stream::LinkFault;
 
 /// Why a connection is over.
@@ -16,7 +16,7 @@ pub enum Leave {
     /// Moving bytes failed.
     Failed(RelayFault),
     /// What the client sent is no request, or its reply can't be written.
-    BadClient(FrontCause),
+    BadClient(CloseCause),
     /// What the server sent is no reply to a call.
     BadServer(ClientCause),
     /// The server can't be asked.
@@ -33,11 +33,11 @@ pub enum Leave {
 
 impl Leave {
     /// Returns why the connection of a client is over whose front isn't open, and `None` if it is.
-    pub fn of_front(state: FrontState) -> Option<Leave> {
+    pub fn of_state(state: ConnState) -> Option<Leave> {
         match state {
-            FrontState::Open => None,
-            FrontState::Closed(FrontCause::Server(ServerCause::Ended)) => Some(Leave::Ended),
-            FrontState::Closed(cause) => Some(Leave::BadClient(cause)),
+            ConnState::Open => None,
+            ConnState::Closed(CloseCause::Server(ServerCause::Ended)) => Some(Leave::Ended),
+            ConnState::Closed(cause) => Some(Leave::BadClient(cause)),
         }
     }
 
@@ -66,7 +66,7 @@ impl Leave {
             Leave::Failed(RelayFault::Receiving(fault) | RelayFault::Sending(fault)) => {
                 fault.kind == ErrorKind::OutOfMemory
             }
-            Leave::BadClient(FrontCause::NoMemory | FrontCause::Server(ServerCause::NoMemory)) => {
+            Leave::BadClient(CloseCause::NoMemory | CloseCause::Server(ServerCause::NoMemory)) => {
                 true
             }
             _ => false,

@@ -1,10 +1,10 @@
--- What acts with a hall add to the turns of each connection, and deeds to the acts at each server.
+-- What acts with connections add to the turns of each connection, and deeds to the acts at each server.
 use Rattle.std.proofs.Common.{◌≡◌, ℕ, zero, suc, Bool, true, false, List, [], ◌∷◌, ◌++◌, length, map, Some, ap, refl, sym, subst, ◌∙◌, append_assoc, append-nil}
 use Rattle.std.specs.Prelude.{◌==◌, if◌then◌else◌}
 use Rattle.wire_peer.specs.{Does, LogEntry, ServerView, Stops}
 use Rattle.wire_peer.specs.declared.log.Logged.{Logged}
-use Rattle.wire_serve.specs.Halls.{Acts, Closes, Forgets, HallAct, Opens, Stays, told_in, turns_of}
-use Rattle.wire_serve.specs.Seats.{SeatAct, SeatRun, SeatSeen, SeatTurns, Tells}
+use Rattle.wire_serve.specs.Connections.{Acts, Closes, ConnsAct, Forgets, Opens, Stays, told_in, turns_of}
+use Rattle.wire_serve.specs.Slots.{SlotAct, SlotRun, SlotSeen, SlotTurns, Tells}
 use Rattle.wire_serve.specs.Serving.{of_acts, of_turns}
 use Rattle.std.proofs.lemmas.Option.{none-some}
 use Rattle.wire_serve.specs.Owning.{link_at, links_in}
@@ -13,10 +13,10 @@ use Rattle.wire_model.specs.{Deed, ServerAct, Turn, at_server, deeds_of, server_
 use Rattle.wire_model.specs.Deeds.{AtClient, AtServer, Is}
 use Rattle.wire_model.specs.Deeds as owners
 
--- ---- acts with a hall
+-- ---- acts with connections
 
 module _ {L : Type 0} where
-  pub turns_on : (c : ℕ) (acts more : List (HallAct L)) → turns_of c (acts ++ more) ≡ turns_of c acts ++ turns_of c more
+  pub turns_on : (c : ℕ) (acts more : List (ConnsAct L)) → turns_of c (acts ++ more) ≡ turns_of c acts ++ turns_of c more
   turns_on c [] more = refl
   turns_on c (Opens key link ∷ acts) more = turns_on c acts more
   turns_on c (Acts key d turn ∷ acts) more = by (d == c) (turns_on c acts more)
@@ -24,26 +24,26 @@ module _ {L : Type 0} where
       by : (b : Bool) → turns_of c (acts ++ more) ≡ turns_of c acts ++ turns_of c more
           → (if b then turn ∷ turns_of c (acts ++ more) else turns_of c (acts ++ more))
           ≡ (if b then turn ∷ turns_of c acts else turns_of c acts) ++ turns_of c more
-      by true e = ap (λ (z : List (List SeatAct)). turn ∷ z) e
+      by true e = ap (λ (z : List (List SlotAct)). turn ∷ z) e
       by false e = e
   turns_on c (Closes key ∷ acts) more = turns_on c acts more
   turns_on c (Forgets told ∷ acts) more = turns_on c acts more
   turns_on c (Stays ∷ acts) more = turns_on c acts more
 
   -- an act that is no turn
-  pub no_turn : (c : ℕ) (acts : List (HallAct L)) (act : HallAct L) → turns_of c (act ∷ []) ≡ [] → turns_of c (acts ++ act ∷ []) ≡ turns_of c acts
-  no_turn c acts act none = turns_on c acts (act ∷ []) ∙ ap (λ (z : List (List SeatAct)). turns_of c acts ++ z) none ∙ append-nil (turns_of c acts)
+  pub no_turn : (c : ℕ) (acts : List (ConnsAct L)) (act : ConnsAct L) → turns_of c (act ∷ []) ≡ [] → turns_of c (acts ++ act ∷ []) ≡ turns_of c acts
+  no_turn c acts act none = turns_on c acts (act ∷ []) ∙ ap (λ (z : List (List SlotAct)). turns_of c acts ++ z) none ∙ append-nil (turns_of c acts)
 
-  pub turn_here : (c key : ℕ) (acts : List (HallAct L)) (turn : List SeatAct)
+  pub turn_here : (c key : ℕ) (acts : List (ConnsAct L)) (turn : List SlotAct)
       → turns_of c (acts ++ Acts key c turn ∷ []) ≡ turns_of c acts ++ turn ∷ []
   turn_here c key acts turn =
       turns_on c acts (Acts key c turn ∷ []) ∙ ap (λ (b : Bool). turns_of c acts ++ (if b then turn ∷ [] else [])) (is_here c c refl)
 
-  pub turn_far : (c d key : ℕ) (acts : List (HallAct L)) (turn : List SeatAct) → (d ≡ c → ⊥)
+  pub turn_far : (c d key : ℕ) (acts : List (ConnsAct L)) (turn : List SlotAct) → (d ≡ c → ⊥)
       → turns_of c (acts ++ Acts key d turn ∷ []) ≡ turns_of c acts
   turn_far c d key acts turn n = no_turn c acts (Acts key d turn) (ap (λ (b : Bool). if b then turn ∷ [] else []) (is_elsewhere c d n))
 
-  pub told_on : (acts more : List (HallAct L)) → told_in (acts ++ more) ≡ told_in acts ++ told_in more
+  pub told_on : (acts more : List (ConnsAct L)) → told_in (acts ++ more) ≡ told_in acts ++ told_in more
   told_on [] more = refl
   told_on (Opens key link ∷ acts) more = told_on acts more
   told_on (Acts key d turn ∷ acts) more = told_on acts more
@@ -52,13 +52,13 @@ module _ {L : Type 0} where
       ap (λ (z : List LogEntry). told ++ z) (told_on acts more) ∙ sym (append_assoc told (told_in acts) (told_in more))
   told_on (Stays ∷ acts) more = told_on acts more
 
-  pub none_told : (acts : List (HallAct L)) (act : HallAct L) → told_in (act ∷ []) ≡ [] → told_in (acts ++ act ∷ []) ≡ told_in acts
+  pub none_told : (acts : List (ConnsAct L)) (act : ConnsAct L) → told_in (act ∷ []) ≡ [] → told_in (acts ++ act ∷ []) ≡ told_in acts
   none_told acts act none = told_on acts (act ∷ []) ∙ ap (λ (z : List LogEntry). told_in acts ++ z) none ∙ append-nil (told_in acts)
 
-  pub these_told : (acts : List (HallAct L)) (told : List LogEntry) → told_in (acts ++ Forgets told ∷ []) ≡ told_in acts ++ told
+  pub these_told : (acts : List (ConnsAct L)) (told : List LogEntry) → told_in (acts ++ Forgets told ∷ []) ≡ told_in acts ++ told
   these_told acts told = told_on acts (Forgets told ∷ []) ∙ ap (λ (z : List LogEntry). told_in acts ++ z) (append-nil told)
 
-  links_on : (acts more : List (HallAct L)) → links_in (acts ++ more) ≡ links_in acts ++ links_in more
+  links_on : (acts more : List (ConnsAct L)) → links_in (acts ++ more) ≡ links_in acts ++ links_in more
   links_on [] more = refl
   links_on (Opens key link ∷ acts) more = ap (λ (z : List L). link ∷ z) (links_on acts more)
   links_on (Acts key d turn ∷ acts) more = links_on acts more
@@ -66,10 +66,10 @@ module _ {L : Type 0} where
   links_on (Forgets told ∷ acts) more = links_on acts more
   links_on (Stays ∷ acts) more = links_on acts more
 
-  pub one_link : (acts : List (HallAct L)) (key : ℕ) (link : L) → links_in (acts ++ Opens key link ∷ []) ≡ links_in acts ++ link ∷ []
+  pub one_link : (acts : List (ConnsAct L)) (key : ℕ) (link : L) → links_in (acts ++ Opens key link ∷ []) ≡ links_in acts ++ link ∷ []
   one_link acts key link = links_on acts (Opens key link ∷ [])
 
-  pub no_link : (acts : List (HallAct L)) (act : HallAct L) → links_in (act ∷ []) ≡ [] → links_in (acts ++ act ∷ []) ≡ links_in acts
+  pub no_link : (acts : List (ConnsAct L)) (act : ConnsAct L) → links_in (act ∷ []) ≡ [] → links_in (acts ++ act ∷ []) ≡ links_in acts
   no_link acts act none = links_on acts (act ∷ []) ∙ ap (λ (z : List L). links_in acts ++ z) none ∙ append-nil (links_in acts)
 
   -- the link of a connection, among one more
@@ -77,21 +77,21 @@ module _ {L : Type 0} where
   link-push links zero l x at = absurd (none-some l at)
   link-push links (suc i) l x at = get-push_old links i l x at
 
--- ---- turns of a seat
+-- ---- turns of a slot
 
-pub of_turns-push : {X : Type 0} (by : SeatAct → List X) (turns : List (List SeatAct)) (turn : List SeatAct)
+pub of_turns-push : {X : Type 0} (by : SlotAct → List X) (turns : List (List SlotAct)) (turn : List SlotAct)
     → of_turns by (turns ++ turn ∷ []) ≡ of_turns by turns ++ of_acts by turn
 of_turns-push by [] turn = append-nil (of_acts by turn)
 of_turns-push {X} by (first ∷ turns) turn =
     ap (λ (z : List X). of_acts by first ++ z) (of_turns-push by turns turn) ∙ sym (append_assoc (of_acts by first) (of_turns by turns) (of_acts by turn))
 
 module _ {H L : Type 0} (does : Does H) (stops : Stops H) (t : Tells L) where
-  pub seat_turns-push : (turns : List (List SeatAct)) (turn : List SeatAct) (old mid new : SeatSeen L) (from to : Logged H)
-      → SeatTurns does stops t old turns mid → SeatRun does stops t mid from turn new to → SeatTurns does stops t old (turns ++ turn ∷ []) new
-  seat_turns-push [] turn old mid new from to is run =
-      (new, from, to, subst (λ (s : SeatSeen L). SeatRun does stops t s from turn new to) is run, refl)
-  seat_turns-push (first ∷ turns) turn old mid new from to (next, start, stop, one, rest) run =
-      (next, start, stop, one, seat_turns-push turns turn next mid new from to rest run)
+  pub slot_turns-push : (turns : List (List SlotAct)) (turn : List SlotAct) (old mid new : SlotSeen L) (from to : Logged H)
+      → SlotTurns does stops t old turns mid → SlotRun does stops t mid from turn new to → SlotTurns does stops t old (turns ++ turn ∷ []) new
+  slot_turns-push [] turn old mid new from to is run =
+      (new, from, to, subst (λ (s : SlotSeen L). SlotRun does stops t s from turn new to) is run, refl)
+  slot_turns-push (first ∷ turns) turn old mid new from to (next, start, stop, one, rest) run =
+      (next, start, stop, one, slot_turns-push turns turn next mid new from to rest run)
 
 -- ---- deeds
 

@@ -1,4 +1,4 @@
--- What a server gives when its front answers, and what the front puts out.
+-- What a server gives when its server connection answers, and what the server connection puts out.
 use Rattle.std.proofs.Common.{◌≡◌, ℕ, ◌≤◌, List, [], ◌∷◌, ◌++◌, length, Bool, true, false, None, Some, Result, Ok, Err, ap, arith, refl, sym, subst, ◌∙◌, append_assoc, append-nil}
 use Rattle.std.specs.Prelude.{remove}
 use Rattle.wire_msg.specs.{Message}
@@ -6,9 +6,9 @@ use Rattle.wire_peer.specs.{AnswerStep, Does, LogEntry, ServerView, Stops, Waits
 use Rattle.wire_peer.specs.Chains.{ReplyState}
 use Rattle.wire_peer.specs.declared.server_state.AnswerRefusal.{AnswerRefusal}
 use Rattle.wire_peer.specs.declared.server_state.AnswerRefusal.TheVariants as refusals
-use Rattle.wire_serve.specs.Fronts.{FrontView, PutsOut, refused, respelled, with_server}
+use Rattle.wire_serve.specs.ServerConnections.{ConnView, PutsOut, refused, respelled, with_server}
 use Rattle.wire_serve.specs.Respelling.{NoRespelling}
-use Rattle.wire_serve.specs.declared.cause.FrontCause.{FrontCause}
+use Rattle.wire_serve.specs.declared.cause.CloseCause.{CloseCause}
 use Rattle.wire_serve.specs.Owning.{GivenAs, IsGiven, IsOneAnswer, all_put_out, and_as_it_is, and_respelled, last_lost}
 
 none_at : (s : ServerView) (m : Message) → s.waiting ≡ [] → WaitsAt s 0 m → ⊥
@@ -20,32 +20,32 @@ none_left [] le = refl
 none_left (x ∷ []) le = refl
 none_left (x ∷ y ∷ waiting) le = absurd (omega (arith, le))
 
--- a front whose server refused to answer
-pub put_plain : (queried : Bool) (refusal : AnswerRefusal) (f new : FrontView) → PutsOut queried (Err refusal) f new → new ≡ f
+-- a server connection whose server refused to answer
+pub put_plain : (queried : Bool) (refusal : AnswerRefusal) (f new : ConnView) → PutsOut queried (Err refusal) f new → new ≡ f
 put_plain true refusal f new is = is
 put_plain false refusal f new is = is
 
-module _ (given went : List ℕ) (f new : FrontView) (s : ServerView) where
+module _ (given went : List ℕ) (f new : ConnView) (s : ServerView) where
   plain : GivenAs given went → new ≡ with_server f s → IsGiven (given ++ s.output) (went ++ new.output) new
-  plain g is = all_put_out (subst (λ (o : List ℕ). GivenAs (given ++ s.output) (went ++ o)) (sym (ap (λ (z : FrontView). z.output) is)) (and_as_it_is s.output g))
+  plain g is = all_put_out (subst (λ (o : List ℕ). GivenAs (given ++ s.output) (went ++ o)) (sym (ap (λ (z : ConnView). z.output) is)) (and_as_it_is s.output g))
 
   puts : (queried : Bool) (result : Result ℕ AnswerRefusal) → GivenAs given went → ((n : ℕ) → result ≡ Ok n → s.waiting ≡ [])
       → ((n : ℕ) → result ≡ Ok n → IsOneAnswer s.output) → PutsOut queried result (with_server f s) new → IsGiven (given ++ s.output) (went ++ new.output) new
   puts false result g left one is = plain g is
   puts true (Err refusal) g left one is = plain g is
   puts true (Ok n) g left one (respelled reply as_reply is) =
-      all_put_out (subst (λ (o : List ℕ). GivenAs (given ++ s.output) (went ++ o)) (sym (ap (λ (z : FrontView). z.output) is)) (and_respelled s.output reply g as_reply))
+      all_put_out (subst (λ (o : List ℕ). GivenAs (given ++ s.output) (went ++ o)) (sym (ap (λ (z : ConnView). z.output) is)) (and_respelled s.output reply g as_reply))
   puts true (Ok n) g left one (refused cause why is) =
       last_lost s.output cause
-      (subst (λ (o : List ℕ). GivenAs given o) (sym (append-nil went) ∙ ap (λ (o : List ℕ). went ++ o) (sym (ap (λ (z : FrontView). z.output) is))) g)
+      (subst (λ (o : List ℕ). GivenAs given o) (sym (append-nil went) ∙ ap (λ (o : List ℕ). went ++ o) (sym (ap (λ (z : ConnView). z.output) is))) g)
       refl
       (one n refl)
       why
-      (ap (λ (z : FrontView). z.cause) is)
-      (ap (λ (z : FrontView). z.server.waiting) is ∙ left n refl)
+      (ap (λ (z : ConnView). z.cause) is)
+      (ap (λ (z : ConnView). z.server.waiting) is ∙ left n refl)
 
-  -- a front that closed by itself, and whose server refused to answer
-  stays_lost : {before : List ℕ} (lost : List ℕ) (cause : FrontCause) (refusal : AnswerRefusal) → s ≡ f.server → f.server.output ≡ [] → f.output ≡ []
+  -- a server connection that closed by itself, and whose server refused to answer
+  stays_lost : {before : List ℕ} (lost : List ℕ) (cause : CloseCause) (refusal : AnswerRefusal) → s ≡ f.server → f.server.output ≡ [] → f.output ≡ []
       → GivenAs before (went ++ f.output) → given ≡ before ++ lost → IsOneAnswer lost → NoRespelling lost cause
       → f.cause ≡ Some cause → f.server.waiting ≡ []
       → PutsOut f.queried (Err refusal) (with_server f s) new → IsGiven (given ++ s.output) (went ++ new.output) new
@@ -53,12 +53,12 @@ module _ (given went : List ℕ) (f new : FrontView) (s : ServerView) where
       let new_is : new ≡ with_server f s = put_plain f.queried refusal (with_server f s) new out in
       let empty : s.output ≡ [] = ap (λ (z : ServerView). z.output) same ∙ none in
       last_lost lost cause
-      (subst (λ (o : List ℕ). GivenAs before (went ++ o)) (all ∙ sym (ap (λ (z : FrontView). z.output) new_is ∙ empty)) g)
+      (subst (λ (o : List ℕ). GivenAs before (went ++ o)) (all ∙ sym (ap (λ (z : ConnView). z.output) new_is ∙ empty)) g)
       (ap (λ (o : List ℕ). given ++ o) empty ∙ append-nil given ∙ is)
       one
       why
-      (ap (λ (z : FrontView). z.cause) new_is ∙ own)
-      (ap (λ (z : FrontView). z.server.waiting) new_is ∙ ap (λ (z : ServerView). z.waiting) same ∙ waits)
+      (ap (λ (z : ConnView). z.cause) new_is ∙ own)
+      (ap (λ (z : ConnView). z.server.waiting) new_is ∙ ap (λ (z : ServerView). z.waiting) same ∙ waits)
 
 module _ {H : Type 0} (does : Does H) (stops : Stops H) where
   -- what waits after an answer
@@ -77,7 +77,7 @@ module _ {H : Type 0} (does : Does H) (stops : Stops H) where
   left (Err refusals.OutOfMemory) s s' h h' log log' one (opens, few, is, h_is, log_is) =
       (subst (λ (z : ServerView). length z.waiting ≤ 1) (sym is) one, λ k e. absurd (cc (e)))
 
-  -- what the server of a front gave by one answer
+  -- what the server of a server connection gave by one answer
   gave : (result : Result ℕ AnswerRefusal) (s s' : ServerView) (h h' : H) (log log' : List LogEntry) → s.output ≡ []
       → AnswerStep does stops 0 result s h log s' h' log' → (n : ℕ) → result ≡ Ok n → IsOneAnswer s'.output
   gave (Ok n) s s' h h' log log' none (opens, count, (m, waits, (r, (answers, found, fits, r_is), is))) k e = (
@@ -89,7 +89,7 @@ module _ {H : Type 0} (does : Does H) (stops : Stops H) where
   )
   gave (Err refusal) s s' h h' log log' none step k e = absurd (cc (e))
 
-  lost_on : (result : Result ℕ AnswerRefusal) (given went : List ℕ) {before : List ℕ} (lost : List ℕ) (gone : FrontCause) (f new : FrontView) (s : ServerView) (h h' : H)
+  lost_on : (result : Result ℕ AnswerRefusal) (given went : List ℕ) {before : List ℕ} (lost : List ℕ) (gone : CloseCause) (f new : ConnView) (s : ServerView) (h h' : H)
       (log log' : List LogEntry) → f.server.output ≡ [] → f.output ≡ [] → AnswerStep does stops 0 result f.server h log s h' log'
       → PutsOut f.queried result (with_server f s) new → GivenAs before (went ++ f.output) → given ≡ before ++ lost → IsOneAnswer lost
       → NoRespelling lost gone → f.cause ≡ Some gone → f.server.waiting ≡ [] → IsGiven (given ++ s.output) (went ++ new.output) new
@@ -104,7 +104,7 @@ module _ {H : Type 0} (does : Does H) (stops : Stops H) where
   lost_on (Err refusals.OutOfMemory) given went lost gone f new s h h' log log' none all (opens, few, s_is, h_is, log_is) out g is one why own empty =
       stays_lost given went f new s lost gone refusals.OutOfMemory s_is none all g is one why own empty out
 
-  pub gives : (result : Result ℕ AnswerRefusal) (given went : List ℕ) (f new : FrontView) (s : ServerView) (h h' : H) (log log' : List LogEntry)
+  pub gives : (result : Result ℕ AnswerRefusal) (given went : List ℕ) (f new : ConnView) (s : ServerView) (h h' : H) (log log' : List LogEntry)
       → f.server.output ≡ [] → f.output ≡ [] → length f.server.waiting ≤ 1 → AnswerStep does stops 0 result f.server h log s h' log'
       → PutsOut f.queried result (with_server f s) new → IsGiven given (went ++ f.output) f → IsGiven (given ++ s.output) (went ++ new.output) new
   gives result given went f new s h h' log log' none all one step out (all_put_out g) =
@@ -117,14 +117,14 @@ module _ {H : Type 0} (does : Does H) (stops : Stops H) where
 -- ---- other acts
 
 -- what waits to be sent is sent
-pub goes : (given went bytes rest : List ℕ) (f : FrontView) → f.output ≡ bytes ++ rest → IsGiven given (went ++ f.output) f
+pub goes : (given went bytes rest : List ℕ) (f : ConnView) → f.output ≡ bytes ++ rest → IsGiven given (went ++ f.output) f
     → IsGiven given ((went ++ bytes) ++ rest) (record f { output = rest })
 goes given went bytes rest f first (all_put_out g) =
     all_put_out (subst (λ (o : List ℕ). GivenAs given o) (ap (λ (o : List ℕ). went ++ o) first ∙ sym (append_assoc went bytes rest)) g)
 goes given went bytes rest f first (last_lost {before} lost cause g is one why own empty) =
     last_lost lost cause (subst (λ (o : List ℕ). GivenAs before o) (ap (λ (o : List ℕ). went ++ o) first ∙ sym (append_assoc went bytes rest)) g) is one why own empty
 
--- an open front puts nothing out
-pub keeps_out : (given out : List ℕ) (old new : FrontView) → old.cause ≡ None → IsGiven given out old → IsGiven given out new
+-- an open server connection puts nothing out
+pub keeps_out : (given out : List ℕ) (old new : ConnView) → old.cause ≡ None → IsGiven given out old → IsGiven given out new
 keeps_out given out old new none (all_put_out g) = all_put_out g
 keeps_out given out old new none (last_lost lost cause g is one why own empty) = absurd (cc (none, own))

@@ -14,6 +14,6 @@ pub mod Told
 pub mod Acts
 pub mod Counted
 pub mod Places
-pub mod Halls
+pub mod Connections
 pub mod Beside
 pub mod Lemmas

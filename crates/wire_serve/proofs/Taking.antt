@@ -1,4 +1,4 @@
--- What a front took, by what became of the bytes.
+-- What a server connection took, by what became of the bytes.
 use Rattle.std.proofs.Common.{◌≡◌, ◌≢◌, ℕ, List, [], ◌∷◌, ◌++◌, Option, Some, Bool, true, false, length, take, drop, ap, refl, sym, subst, ◌∙◌}
 use Rattle.std.specs.Prelude.{IsTrue, Ok}
 use Rattle.wire_stream.specs.declared.reader_state.ReaderState.{ReaderState}
@@ -6,11 +6,11 @@ use Rattle.wire_stream.specs.declared.reader_state.ReaderState.TheVariants.{Bad,
 use Rattle.wire_peer.specs.{ServerView, TakesBytes}
 use Rattle.wire_peer.specs.Servers.{holding}
 use Rattle.wire_peer.proofs.Lemmas.{server_own}
-use Rattle.wire_serve.specs.declared.cause.FrontCause.{FrontCause}
-use Rattle.wire_serve.specs.declared.cause.FrontCause.TheVariants as causes
+use Rattle.wire_serve.specs.declared.cause.CloseCause.{CloseCause}
+use Rattle.wire_serve.specs.declared.cause.CloseCause.TheVariants as causes
 use Rattle.wire_serve.specs.declared.passing.Passed.{Passed}
 use Rattle.wire_serve.specs.declared.passing.Passed.TheVariants as passed
-use Rattle.wire_serve.specs.Fronts.{FrontTakes, IsReady, asks, begins, gathers, goes_on, refuses}
+use Rattle.wire_serve.specs.ServerConnections.{ConnTakes, IsReady, asks, begins, gathers, goes_on, refuses}
 use Rattle.wire_serve.specs.Kept.{view_of}
 use Rattle.wire_serve.specs.Passing.{PassesOn, TakesNext}
 
@@ -38,9 +38,9 @@ output_kept s s' piece n t = ap (λ (z : ServerView). z.output) t.is ∙ same_ou
 
 -- ---- inside a message
 
-pub took_inside : (s s' : ServerView) (part reply piece : List ℕ) (queried : Bool) (gone n : ℕ) (cause : Option FrontCause)
+pub took_inside : (s s' : ServerView) (part reply piece : List ℕ) (queried : Bool) (gone n : ℕ) (cause : Option CloseCause)
     → s.held ≢ [] → part ≡ [] → TakesBytes s piece n s'
-    → FrontTakes (view_of s part queried reply gone cause) (take n piece) (view_of s' part false reply gone cause)
+    → ConnTakes (view_of s part queried reply gone cause) (take n piece) (view_of s' part false reply gone cause)
 took_inside s s' part reply piece queried gone n cause some empty t =
     goes_on (quiet s') some empty (quiet_takes s s' (take n piece) (length (take n piece)) (server_own s piece n s' t))
     (ap (λ (o : List ℕ). record (view_of s part queried reply gone cause) { server = quiet s'; queried = false; output = drop gone reply ++ o })
@@ -56,7 +56,7 @@ pub not_inside : (held : List ℕ) → (held ≢ [] → IsTrue false) → held �
 not_inside [] none = refl
 not_inside (b ∷ bytes) none = absurd (subst IsFalse (none (λ e. absurd (cc))) tt)
 
-pub next_of : (s : ServerView) (part : List ℕ) (queried : Bool) (reply : List ℕ) (gone : ℕ) (cause : Option FrontCause)
+pub next_of : (s : ServerView) (part : List ℕ) (queried : Bool) (reply : List ℕ) (gone : ℕ) (cause : Option CloseCause)
     → IsReady (view_of s part queried reply gone cause) → s.held ≡ [] → s.limit ≡ 48000000 → TakesNext s
 next_of s part queried reply gone cause r between limit = record {
   is_open = r.is_open;
@@ -66,7 +66,7 @@ next_of s part queried reply gone cause r between limit = record {
   limit = limit;
 }
 
--- the bytes that are gathered then, whether a query came last, and why the front closed
+-- the bytes that are gathered then, whether a query came last, and why the server connection closed
 abbrev pub left : Passed → List ℕ → List ℕ
 left passed.Nothing all = all
 left passed.Header all = []
@@ -79,20 +79,20 @@ queried_by passed.Header queried = false
 queried_by passed.Query queried = true
 queried_by (passed.Refused fault) queried = queried
 
-abbrev pub cause_by : Passed → Option FrontCause → Option FrontCause
+abbrev pub cause_by : Passed → Option CloseCause → Option CloseCause
 cause_by passed.Nothing cause = cause
 cause_by passed.Header cause = cause
 cause_by passed.Query cause = cause
 cause_by (passed.Refused fault) cause = Some (causes.Query fault)
 
 -- with what was gathered, if the server is as it was
-same_view : (s s' : ServerView) (part reply : List ℕ) (queried : Bool) (gone : ℕ) (cause : Option FrontCause) → s' ≡ s
+same_view : (s s' : ServerView) (part reply : List ℕ) (queried : Bool) (gone : ℕ) (cause : Option CloseCause) → s' ≡ s
     → view_of s' part queried reply gone cause ≡ view_of s part queried reply gone cause
 same_view s s' part reply queried gone cause same = ap (λ (z : ServerView). view_of z part queried reply gone cause) same
 
-as_passed : (what : Passed) (s s' : ServerView) (part bytes reply : List ℕ) (queried : Bool) (gone : ℕ) (cause : Option FrontCause)
+as_passed : (what : Passed) (s s' : ServerView) (part bytes reply : List ℕ) (queried : Bool) (gone : ℕ) (cause : Option CloseCause)
     → s.held ≡ [] → PassesOn (Ok what) (part ++ bytes) s s'
-    → FrontTakes (view_of s part queried reply gone cause) bytes
+    → ConnTakes (view_of s part queried reply gone cause) bytes
     (view_of s' (left what (part ++ bytes)) (queried_by what queried) reply gone (cause_by what cause))
 as_passed passed.Nothing s s' part bytes reply queried gone cause between (is, same) =
     gathers between is (same_view s s' (part ++ bytes) reply queried gone cause same)
@@ -105,10 +105,10 @@ as_passed passed.Query s s' part bytes reply queried gone cause between (whole, 
 as_passed (passed.Refused fault) s s' part bytes reply queried gone cause between (whole, first, same) =
     refuses fault between whole first (same_view s s' (part ++ bytes) reply queried gone (Some (causes.Query fault)) same)
 
-pub took_as : (what : Passed) (s s' : ServerView) (part bytes now reply : List ℕ) (queried : Bool) (gone : ℕ) (cause : Option FrontCause)
+pub took_as : (what : Passed) (s s' : ServerView) (part bytes now reply : List ℕ) (queried : Bool) (gone : ℕ) (cause : Option CloseCause)
     → s.held ≡ [] → PassesOn (Ok what) (part ++ bytes) s s' → now ≡ left what (part ++ bytes)
-    → FrontTakes (view_of s part queried reply gone cause) bytes
+    → ConnTakes (view_of s part queried reply gone cause) bytes
     (view_of s' now (queried_by what queried) reply gone (cause_by what cause))
 took_as what s s' part bytes now reply queried gone cause between p is =
-    subst (λ (x : List ℕ). FrontTakes (view_of s part queried reply gone cause) bytes (view_of s' x (queried_by what queried) reply gone (cause_by what cause)))
+    subst (λ (x : List ℕ). ConnTakes (view_of s part queried reply gone cause) bytes (view_of s' x (queried_by what queried) reply gone (cause_by what cause)))
     (sym is) (as_passed what s s' part bytes reply queried gone cause between p)

@@ -1,14 +1,14 @@
--- How a front keeps what it holds.
+-- How a server connection keeps what it holds.
 use Rattle.std.specs.Prelude.{◌≡◌, ◌≢◌, ℕ, ◌<◌, ◌≤◌, ◌++◌, Bool, Option, None, List, [], drop}
 use Rattle.std.specs.Prelude.{length}
 use Rattle.wire_peer.specs.{ServerView}
-use Rattle.wire_serve.specs.declared.cause.FrontCause.{FrontCause}
-use Rattle.wire_serve.specs.Fronts.{FrontView}
+use Rattle.wire_serve.specs.declared.cause.CloseCause.{CloseCause}
+use Rattle.wire_serve.specs.ServerConnections.{ConnView}
 use Rattle.wire_serve.specs.Heads.{IsPart}
 
 -- what a caller sees of these parts
 abbrev pub view_of : ServerView → (part : List ℕ) → (queried : Bool) → (reply : List ℕ)
-    → (gone : ℕ) → Option FrontCause → FrontView
+    → (gone : ℕ) → Option CloseCause → ConnView
 view_of server part queried reply gone cause = record {
   server = record server { output = [] };
   part = part;
@@ -18,10 +18,10 @@ view_of server part queried reply gone cause = record {
 }
 
 -- The parts belong together: one request may wait; either the reply or the server's output is
--- empty; an open front has gathered fewer bytes than it wants; and it gathers none while its
--- server is inside a message.
+-- empty; an open server connection has gathered fewer bytes than it wants; and it gathers none
+-- while its server is inside a message.
 pub record AreKept (server : ServerView) (part reply : List ℕ) (gone : ℕ)
-    (cause : Option FrontCause) : Type 0 where
+    (cause : Option CloseCause) : Type 0 where
   pub window : server.window ≡ 1
   pub limit : server.limit ≡ 48000000
   pub within : gone ≤ length reply

@@ -4,8 +4,8 @@ use Rattle.std.specs.declared.alloc.Global.{Global}
 use Rattle.wire_msg.specs.{Message, SpellsMsg}
 use Rattle.wire_query.specs.{reply_bytes, reply_len}
 use Rattle.wire_query.specs.Replies.{command_head}
-use Rattle.wire_serve.specs.declared.cause.FrontCause.{FrontCause}
-use Rattle.wire_serve.specs.declared.cause.FrontCause.TheVariants as causes
+use Rattle.wire_serve.specs.declared.cause.CloseCause.{CloseCause}
+use Rattle.wire_serve.specs.declared.cause.CloseCause.TheVariants as causes
 
 -- The bytes spell a message with no document sequence, and these are the OP_REPLY with its ids and
 -- its body.
@@ -16,7 +16,7 @@ pub record Respells (bytes reply : List ℕ) : Type 0 where
   pub same : reply ≡ reply_bytes (command_head m.id m.response_to) m.content.body
 
 -- why the bytes of a message have no OP_REPLY
-abbrev pub NoRespelling : List ℕ → FrontCause → Type 0
+abbrev pub NoRespelling : List ℕ → CloseCause → Type 0
 NoRespelling bytes causes.NotAlone =
     (m : Message) → SpellsMsg m bytes → length bytes ≤ 48000000 → m.content.sequences ≢ []
 NoRespelling bytes causes.ReplyTooLarge =
@@ -25,6 +25,6 @@ NoRespelling bytes causes.NoMemory = Unit {0}
 NoRespelling bytes cause = ⊥
 
 -- the OP_REPLY of these bytes, or why there is none
-abbrev pub IsRespelled : List ℕ → Result (Vec ℕ Global) FrontCause → Type 0
+abbrev pub IsRespelled : List ℕ → Result (Vec ℕ Global) CloseCause → Type 0
 IsRespelled bytes (Ok reply) = Respells bytes reply.items
 IsRespelled bytes (Err cause) = NoRespelling bytes cause

@@ -1,12 +1,12 @@
-//! Says whether a front is open, and why it closed.
+//! Says whether a server connection is open, and why it closed.
 
 use thiserror::Error;
 use wire_peer::ServerCause;
 use wire_query::QueryFault;
 
-/// Why a front closed.
+/// Why a server connection closed.
 #[derive(Clone, Copy, Debug, PartialEq, Eq, Error)]
-pub enum FrontCause {
+pub enum CloseCause {
     /// The server closed, for this cause.
     #[error("{0}")]
     Server(ServerCause),
@@ -28,11 +28,11 @@ pub enum FrontCause {
     NoMemory,
 }
 
-/// Whether a front is open.
+/// Whether a server connection is open.
 #[derive(Clone, Copy, Debug, PartialEq, Eq)]
-pub enum FrontState {
+pub enum ConnState {
     /// It takes bytes and answers requests.
     Open,
     /// It does neither, for this cause.
-    Closed(FrontCause),
+    Closed(CloseCause),
 }

@@ -1,15 +1,15 @@
 //! Names what a turn came to, and why no connection is opened.
 
-use crate::cause::FrontCause;
+use crate::cause::CloseCause;
 use thiserror::Error;
 use wire_stream::LinkFault;
 
 /// Why a connection is over.
 #[derive(Clone, Copy, Debug, PartialEq, Eq, Error)]
 pub enum Leave {
-    /// The front closed, for this cause.
+    /// The server connection closed, for this cause.
     #[error("{0}")]
-    Closed(FrontCause),
+    Closed(CloseCause),
     /// The link failed.
     #[error("{0}")]
     Link(LinkFault),

@@ -4,10 +4,10 @@ use Rattle.std.specs.Prelude.{slice_get}
 use Rattle.std.proofs.lemmas.Option.{none-some, same_Some}
 use Rattle.wire_msg.specs.{Content, Message, SpellsMsg}
 use Rattle.wire_peer.specs.{LogEntry, WaitsAt}
-use Rattle.wire_serve.specs.{FrontView, state_of}
-use Rattle.wire_serve.specs.Fronts.{ended_by}
-use Rattle.wire_serve.specs.declared.cause.FrontState.{FrontState}
-use Rattle.wire_serve.specs.declared.cause.FrontState.TheVariants as fronts
+use Rattle.wire_serve.specs.{ConnView, state_of}
+use Rattle.wire_serve.specs.ServerConnections.{ended_by}
+use Rattle.wire_serve.specs.declared.cause.ConnState.{ConnState}
+use Rattle.wire_serve.specs.declared.cause.ConnState.TheVariants as conn_states
 use Rattle.wire_model.proofs.Lemmas.{same_request}
 use Rattle.wire_share.specs.declared.awaited.Awaited.{Awaited}
 use Rattle.wire_share.specs.Acts.{Answers, DownAct, DownDoes, DownMove, DownMoves, DownRun, Ends, GoesWith, Moves, PassesOn, Sends, Stays, Takes}
@@ -16,43 +16,43 @@ use Rattle.wire_share.proofs.Among.{Inside}
 
 -- what waits where a call is awaited is a request that was passed on as it
 abbrev pub Fits : (Message → Awaited → Type 0) → DownSeen → Type 0
-Fits P d = (call : Awaited) → d.awaited ≡ Some call → (d.front.server.waiting ≢ []) × ((m : Message) → WaitsAt d.front.server 0 m → P m call)
+Fits P d = (call : Awaited) → d.awaited ≡ Some call → (d.conn.server.waiting ≢ []) × ((m : Message) → WaitsAt d.conn.server 0 m → P m call)
 
 there_is : (ws : List (List ℕ)) (bytes : List ℕ) → slice_get ws 0 ≡ Some bytes → ws ≢ []
 there_is [] bytes at none = none-some bytes at
 there_is (w ∷ ws) bytes at none = cc
 
-goes : (P : Message → Awaited → Type 0) (m : Message) (call : Awaited) (old new : DownSeen) → WaitsAt old.front.server 0 m → P m call → new ≡ record old { awaited = Some call } → Fits P new
+goes : (P : Message → Awaited → Type 0) (m : Message) (call : Awaited) (old new : DownSeen) → WaitsAt old.conn.server 0 m → P m call → new ≡ record old { awaited = Some call } → Fits P new
 goes P m call old new waits p is = subst (Fits P) (sym is) fits
   where
     fits : Fits P (record old { awaited = Some call })
     fits c same = (
-      there_is old.front.server.waiting waits.bytes waits.at,
+      there_is old.conn.server.waiting waits.bytes waits.at,
       λ n w.
           let bytes = same_Some waits.bytes w.bytes (sym waits.at ∙ w.at) in
           subst (λ (x : Awaited). P n x) (same_Some call c same)
           (subst (λ (x : Message). P x call) (same_request m n w.bytes (subst (λ (bs : List ℕ). SpellsMsg m bs) bytes waits.spelled) w.spelled) p),
     )
 
-goes_with : (P : Message → Awaited → Type 0) (m : Message) (call : Awaited) (made : List LogEntry) (old new : DownSeen) (b : Bool) → WaitsAt old.front.server 0 m → P m call
+goes_with : (P : Message → Awaited → Type 0) (m : Message) (call : Awaited) (made : List LogEntry) (old new : DownSeen) (b : Bool) → WaitsAt old.conn.server 0 m → P m call
     → GoesWith b call made old new → Fits P new
 goes_with P m call made old new true waits p (inl gone) = λ c is. absurd (none-some c (sym gone.1 ∙ is))
 goes_with P m call made old new true waits p (inr is) = goes P m call old new waits p is.0
 goes_with P m call made old new false waits p is = goes P m call old new waits p is.0
 
-ended_waits : (state : FrontState) (part : List ℕ) (f : FrontView) → (ended_by state part f).server.waiting ≡ f.server.waiting
-ended_waits (fronts.Closed cause) part f = refl
-ended_waits fronts.Open [] f = refl
-ended_waits fronts.Open (b ∷ bytes) f = refl
+ended_waits : (state : ConnState) (part : List ℕ) (f : ConnView) → (ended_by state part f).server.waiting ≡ f.server.waiting
+ended_waits (conn_states.Closed cause) part f = refl
+ended_waits conn_states.Open [] f = refl
+ended_waits conn_states.Open (b ∷ bytes) f = refl
 
 -- a call is awaited on, and what waits waits on, where bytes are moved
 moves_on : (move : DownMove) (old new : DownSeen) → DownMoves move old new
-    → (new.awaited ≡ old.awaited) × (old.front.server.waiting ≢ [] → new.front.server.waiting ≡ old.front.server.waiting)
+    → (new.awaited ≡ old.awaited) × (old.conn.server.waiting ≢ [] → new.conn.server.waiting ≡ old.conn.server.waiting)
 moves_on (Takes bytes) old new does_ = (does_.2, λ some. absurd (some does_.0.none_waits))
-moves_on (Sends bytes) old new does_ = (ap (λ (d : DownSeen). d.awaited) does_.2, λ some. ap (λ (d : DownSeen). d.front.server.waiting) does_.2)
+moves_on (Sends bytes) old new does_ = (ap (λ (d : DownSeen). d.awaited) does_.2, λ some. ap (λ (d : DownSeen). d.conn.server.waiting) does_.2)
 moves_on Ends old new does_ =
-    (ap (λ (d : DownSeen). d.awaited) does_, λ some. ap (λ (d : DownSeen). d.front.server.waiting) does_ ∙ ended_waits (state_of old.front) old.front.part old.front)
-moves_on Stays old new does_ = (ap (λ (d : DownSeen). d.awaited) does_, λ some. ap (λ (d : DownSeen). d.front.server.waiting) does_)
+    (ap (λ (d : DownSeen). d.awaited) does_, λ some. ap (λ (d : DownSeen). d.conn.server.waiting) does_ ∙ ended_waits (state_of old.conn) old.conn.part old.conn)
+moves_on Stays old new does_ = (ap (λ (d : DownSeen). d.awaited) does_, λ some. ap (λ (d : DownSeen). d.conn.server.waiting) does_)
 
 step : (P : Message → Awaited → Type 0) (act : DownAct) (old new : DownSeen) → Fits P old → ((m : Message) (call : Awaited) (made : List LogEntry) → act ≡ PassesOn m call made → P m call)
     → DownDoes act old new → Fits P new

@@ -8,7 +8,7 @@ use Rattle.wire_peer.specs.declared.echoing.Echo.{Echo}
 use Rattle.wire_peer.specs.declared.requests.Request.{Request}
 use Rattle.wire_peer.specs.declared.server_state.AnswerRefusal.{AnswerRefusal}
 use Rattle.wire_peer.proofs.Lemmas.{content_is}
-use Rattle.wire_serve.specs.{FrontAnswers, FrontView, HasLeft}
+use Rattle.wire_serve.specs.{ConnAnswers, ConnView, HasLeft}
 use Rattle.wire_share.specs.declared.awaited.Awaited.{Awaited}
 use Rattle.wire_share.specs.declared.relayed.Relayed.{Relayed}
 use Rattle.wire_share.specs.Sharing.{DownSeen, GoesOn, IsGiven, IsPassed, Leaves, UpSeen, Waits, kind_by, of_call, relays, wants_memory, with_client}
@@ -49,19 +49,19 @@ pub awaited_on : (d d' : DownSeen) (b : Bool) (call : Awaited) → b ≡ false �
 awaited_on d d' b call wants is = subst (λ (x : Bool). GoesOn x call d d') (sym wants) is
 
 -- one that wants none left
-pub left_on : (d d' : DownSeen) (b : Bool) (call : Awaited) → b ≡ true → (h : Echo) × Leaves (λ h a answers h'. answers ≡ a.payload ∷ []) h d.front d'.front
+pub left_on : (d d' : DownSeen) (b : Bool) (call : Awaited) → b ≡ true → (h : Echo) × Leaves (λ h a answers h'. answers ≡ a.payload ∷ []) h d.conn d'.conn
     → d'.awaited ≡ None → GoesOn b call d d'
 left_on d d' b call wants leaves free = subst (λ (x : Bool). GoesOn x call d d') (sym wants) (leaves, free)
 
 -- a reply that carries the content of an answer gives that answer
-pub gives_own : (p : Payload) (answer : Message) (old new : FrontView) → Carries p answer.content → IsGiven (content_of p) old new → IsGiven answer.content old new
+pub gives_own : (p : Payload) (answer : Message) (old new : ConnView) → Carries p answer.content → IsGiven (content_of p) old new → IsGiven answer.content old new
 gives_own p answer old new carries given = subst (λ (c : Content). IsGiven c old new) (content_is p answer.content carries) given
 
 pub is_left : (r : Result ℕ AnswerRefusal) (n : ℕ) → r ≡ Ok n → HasLeft r
 is_left r n is = subst HasLeft (sym is) tt
 
-pub relayed : (r : Result ℕ AnswerRefusal) (p : Payload) (old new : FrontView) (h h' : Relayed) (log log' : List LogEntry)
-    → HasLeft r → old.output ≡ [] → h ≡ record { payload = p } → log ≡ [] → FrontAnswers relays wants_memory r old h log new h' log' → IsGiven (content_of p) old new
+pub relayed : (r : Result ℕ AnswerRefusal) (p : Payload) (old new : ConnView) (h h' : Relayed) (log log' : List LogEntry)
+    → HasLeft r → old.output ≡ [] → h ≡ record { payload = p } → log ≡ [] → ConnAnswers relays wants_memory r old h log new h' log' → IsGiven (content_of p) old new
 relayed r p old new h h' log log' left all_sent is empty step = record {
   payload = p;
   content = refl;
@@ -71,8 +71,8 @@ relayed r p old new h h' log log' left all_sent is empty step = record {
     all_sent = all_sent;
     after = h';
     log = log';
-    step = subst (λ (l : List LogEntry). FrontAnswers relays wants_memory r old (record { payload = p }) l new h' log') empty
-        (subst (λ (x : Relayed). FrontAnswers relays wants_memory r old x log new h' log') is step);
+    step = subst (λ (l : List LogEntry). ConnAnswers relays wants_memory r old (record { payload = p }) l new h' log') empty
+        (subst (λ (x : Relayed). ConnAnswers relays wants_memory r old x log new h' log') is step);
   };
 }
 

@@ -7,7 +7,7 @@ use Rattle.wire_peer.specs.{LogEntry, WaitsAt, content_of}
 use Rattle.wire_peer.specs.declared.echoing.Echo.{Echo}
 use Rattle.wire_peer.specs.declared.call_table.ReadyReply.{ReadyReply}
 use Rattle.wire_peer.specs.declared.calls.CallNo.{CallNo}
-use Rattle.wire_serve.specs.{FrontTakes, IsReady, ended_front}
+use Rattle.wire_serve.specs.{ConnTakes, IsReady, ended_conn}
 use Rattle.wire_model.specs.{ClientAct}
 use Rattle.wire_model.specs.Owners as owners
 use Rattle.wire_share.specs.declared.awaited.Awaited.{Awaited}
@@ -35,11 +35,11 @@ pub data DownAct : Type 0 where
 -- the bytes were moved
 abbrev pub DownMoves : DownMove → DownSeen → DownSeen → Type 0
 DownMoves (Takes bytes) old new =
-    IsReady old.front × FrontTakes old.front bytes new.front × (new.awaited ≡ old.awaited)
+    IsReady old.conn × ConnTakes old.conn bytes new.conn × (new.awaited ≡ old.awaited)
 DownMoves (Sends bytes) old new =
-    (rest : List ℕ) × (old.front.output ≡ bytes ++ rest)
-    × (new ≡ record old { front = record (old.front) { output = rest } })
-DownMoves Ends old new = new ≡ record old { front = ended_front old.front }
+    (rest : List ℕ) × (old.conn.output ≡ bytes ++ rest)
+    × (new ≡ record old { conn = record (old.conn) { output = rest } })
+DownMoves Ends old new = new ≡ record old { conn = ended_conn old.conn }
 DownMoves Stays old new = new ≡ old
 
 -- What became of a request that was made a call, as `GoesOn`, with the entries that it made; or
@@ -48,7 +48,7 @@ abbrev pub GoesWith : (more_to_come : Bool) → Awaited → List LogEntry → Do
     → Type 0
 GoesWith false call made old new = (new ≡ record old { awaited = Some call }) × (made ≡ [])
 GoesWith true call made old new =
-    (((h : Echo) × (leaves : Leaves echoes h old.front new.front) × (leaves.log ≡ made))
+    (((h : Echo) × (leaves : Leaves echoes h old.conn new.conn) × (leaves.log ≡ made))
     × (new.awaited ≡ None))
     ⊎ ((new ≡ record old { awaited = Some call }) × (made ≡ []))
 
@@ -58,8 +58,8 @@ DownDoes (Moves move) old new = DownMoves move old new
 DownDoes (PassesOn m call made) old new =
     Waits old m × GoesWith m.flags.more_to_come call made old new
 DownDoes (Answers m call answer made) old new =
-    (old.awaited ≡ Some call) × WaitsAt old.front.server 0 m
-    × ((given : IsGiven answer old.front new.front) × (given.leaves.log ≡ made))
+    (old.awaited ≡ Some call) × WaitsAt old.conn.server 0 m
+    × ((given : IsGiven answer old.conn new.conn) × (given.leaves.log ≡ made))
     × (new.awaited ≡ None)
 
 -- these acts were done, one after another

@@ -48,5 +48,5 @@ EachMakesOwn connection (act ∷ acts) = MakesOwn connection act × EachMakesOwn
 -- answer, and its entry has its own payload in the place of one.
 pub record IsAnswered (connection : ℕ) (acts : List DownAct) (d : DownSeen) : Type 0 where
   pub served : IsServed connection (of_acts taken_by acts) (of_acts made_by acts)
-      (of_acts sent_by acts) d.front
+      (of_acts sent_by acts) d.conn
   pub own : EachMakesOwn connection acts

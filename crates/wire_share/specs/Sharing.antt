@@ -13,8 +13,8 @@ use Rattle.wire_peer.specs.declared.calls.CallNo.{CallNo}
 use Rattle.wire_peer.specs.declared.echoing.Echo.{Echo}
 use Rattle.wire_peer.specs.declared.handlers.HandlerStop.TheVariants as stops
 use Rattle.wire_peer.specs.declared.server_state.AnswerRefusal.{AnswerRefusal}
-use Rattle.wire_serve.specs.{FrontAnswers, FrontView, HasLeft, new_front, state_of}
-use Rattle.wire_serve.specs.declared.cause.FrontState.TheVariants as fronts
+use Rattle.wire_serve.specs.{ConnAnswers, ConnView, HasLeft, new_conn, state_of}
+use Rattle.wire_serve.specs.declared.cause.ConnState.TheVariants as conn_states
 use Rattle.wire_share.specs.declared.awaited.Awaited.{Awaited}
 use Rattle.wire_share.specs.declared.refusals.GiveRefusal.{GiveRefusal}
 use Rattle.wire_share.specs.declared.refusals.GiveRefusal.TheVariants as given
@@ -24,7 +24,7 @@ use Rattle.wire_share.specs.declared.relayed.Relayed.{Relayed}
 
 -- the connection of a client, and the call that its request was passed on as, if one was
 pub record DownSeen : Type 0 where
-  pub front : FrontView
+  pub conn : ConnView
   pub awaited : Option Awaited
 
 -- the number of a connection to the server, and the client at our end of it
@@ -33,7 +33,7 @@ pub record UpSeen : Type 0 where
   pub client : ClientSeen
 
 abbrev pub new_downstream : ℕ → DownSeen
-new_downstream connection = record { front = new_front connection; awaited = None }
+new_downstream connection = record { conn = new_conn connection; awaited = None }
 
 abbrev pub new_upstream : ℕ → UpSeen
 new_upstream number = record { number = number; client = new_client (pos 1) 1024 48000000 }
@@ -54,10 +54,10 @@ kind_by more_to_come = if more_to_come then Unacknowledged else Plain
 -- This request waits at the downstream and wasn't passed on, and all that was put out before was
 -- sent.
 pub record Waits (d : DownSeen) (m : Message) : Type 0 where
-  pub at : WaitsAt d.front.server 0 m
-  pub is_open : state_of d.front ≡ fronts.Open
+  pub at : WaitsAt d.conn.server 0 m
+  pub is_open : state_of d.conn ≡ conn_states.Open
   pub free : d.awaited ≡ None
-  pub all_sent : d.front.output ≡ []
+  pub all_sent : d.conn.output ≡ []
 
 -- what gives a request back as its answer, which is put out for no request that wants none
 abbrev pub echoes : Does Echo
@@ -71,17 +71,18 @@ relays h a answers h' = answers ≡ content_of h.payload ∷ []
 abbrev pub wants_memory : {H : Type 0} → Stops H
 wants_memory h a stop h' = stop ≡ stops.OutOfMemory
 
--- The request that waits at a front was answered by a handler in this state, and left it.
-pub record Leaves {H : Type 0} (does : Does H) (h : H) (old new : FrontView) : Type 0 where
+-- The request that waits at a server connection was answered by a handler in this state, and left
+-- it.
+pub record Leaves {H : Type 0} (does : Does H) (h : H) (old new : ConnView) : Type 0 where
   pub result : Result ℕ AnswerRefusal
   pub left : HasLeft result
   pub all_sent : old.output ≡ []
   pub after : H
   pub log : List LogEntry
-  pub step : FrontAnswers does wants_memory result old h [] new after log
+  pub step : ConnAnswers does wants_memory result old h [] new after log
 
 -- The request that waits got this answer.
-pub record IsGiven (answer : Content) (old new : FrontView) : Type 0 where
+pub record IsGiven (answer : Content) (old new : ConnView) : Type 0 where
   pub payload : Payload
   pub content : content_of payload ≡ answer
   pub leaves : Leaves relays (record { payload = payload }) old new
@@ -90,7 +91,7 @@ pub record IsGiven (answer : Content) (old new : FrontView) : Type 0 where
 abbrev pub GoesOn : (more_to_come : Bool) → Awaited → DownSeen → DownSeen → Type 0
 GoesOn false call old new = new ≡ record old { awaited = Some call }
 GoesOn true call old new =
-    ((h : Echo) × Leaves echoes h old.front new.front) × (new.awaited ≡ None)
+    ((h : Echo) × Leaves echoes h old.conn new.conn) × (new.awaited ≡ None)
 
 -- This call of an upstream was made of the request, whose payload this is.
 pub record IsPassed (m : Message) (payload : Payload) (call : CallNo) (old new : UpSeen)
@@ -130,15 +131,15 @@ pub record Awaits (d : DownSeen) (u : UpSeen) (reply : ReadyReply) : Type 0 wher
 abbrev pub GiveStep : Result (Unit {0}) GiveRefusal → DownSeen → UpSeen → DownSeen → UpSeen
     → Type 0
 GiveStep (Ok _) d u d' u' =
-    (reply : ReadyReply) × (m answer : Message) × (state_of d.front ≡ fronts.Open)
-    × Awaits d u reply × WaitsAt d.front.server 0 m
-    × SpellsMsg answer u.client.held × IsGiven answer.content d.front d'.front
+    (reply : ReadyReply) × (m answer : Message) × (state_of d.conn ≡ conn_states.Open)
+    × Awaits d u reply × WaitsAt d.conn.server 0 m
+    × SpellsMsg answer u.client.held × IsGiven answer.content d.conn d'.conn
     × (d'.awaited ≡ None) × (u' ≡ with_client u (released u.client))
 GiveStep (Err given.NotAwaited) d u d' u' =
     ((reply : ReadyReply) → Awaits d u reply → ⊥) × (d' ≡ d) × (u' ≡ u)
 GiveStep (Err given.Closed) d u d' u' =
-    ((reply : ReadyReply) × Awaits d u reply) × (state_of d.front ≢ fronts.Open)
+    ((reply : ReadyReply) × Awaits d u reply) × (state_of d.conn ≢ conn_states.Open)
     × (d' ≡ d) × (u' ≡ u)
 GiveStep (Err given.OutOfMemory) d u d' u' =
-    ((reply : ReadyReply) × Awaits d u reply) × (state_of d.front ≡ fronts.Open)
+    ((reply : ReadyReply) × Awaits d u reply) × (state_of d.conn ≡ conn_states.Open)
     × (d' ≡ d) × (u' ≡ u)

@@ -8,7 +8,7 @@ ghost use Rattle.wire_peer.specs.{WaitsAt, asked, asked_by, content_of, ready_of
 ghost use Rattle.wire_peer.specs.declared.call_table.ReadyReply.{ReadyReply};
 ghost use Rattle.wire_peer.specs.declared.echoing.Echo.{Echo};
 ghost use Rattle.wire_stream.specs.{CompletesHeader};
-ghost use Rattle.wire_serve.specs.{FrontTakes, HasLeft, IsReady, ended_front, state_of};
+ghost use Rattle.wire_serve.specs.{ConnTakes, HasLeft, IsReady, ended_conn, state_of};
 ghost use Rattle.wire_share.specs.Sharing.{Awaits, GiveStep, IsGiven, Leaves, PassStep, Waits};
 ghost use Rattle.wire_share.specs.Sharing.{echoes, new_downstream};
 
@@ -20,15 +20,15 @@ use std::alloc::{AllocError, Global};
 use std::marker::Model;
 use wire_msg::Payload;
 use wire_peer::{AnswerRefusal, Echo, Logged, Reply, Request};
-use wire_serve::{Front, FrontState};
+use wire_serve::{ConnState, ServerConnection};
 use wire_stream::ReadRefusal;
 
-/// A front of one connection, and the call that its request was passed on as. It reads and writes
-/// nothing itself. Contracts see it as the record `DownSeen`.
+/// The server's side of one connection, and the call that its request was passed on as. It reads
+/// and writes nothing itself. Contracts see it as the record `DownSeen`.
 #[derive(Drop)]
 pub struct Downstream {
     alloc: Global,
-    front: Front,
+    conn: ServerConnection,
     awaited: Option<Awaited>,
 }
 
@@ -38,9 +38,9 @@ impl Model for Downstream {
 
     ghost Value = { DownSeen };
 
-    ghost view = { λ s. record { front = s.front; awaited = s.awaited } };
+    ghost view = { λ s. record { conn = s.conn; awaited = s.awaited } };
 
-    ghost invariant = { λ s. AreKept s.front s.awaited };
+    ghost invariant = { λ s. AreKept s.conn s.awaited };
 }
 
 /// Returns true if the request waits no more that was answered with this result.
@@ -53,28 +53,28 @@ fn has_left(answered: Result<usize, AnswerRefusal>) -> bool
 
 /// Lets go of the request that waits and wants no reply. Returns false if memory runs out. Nothing
 /// changes then.
-fn let_go(alloc: Global, front: &mut Front) -> bool
-    requires { front.old.output ≡ [] }
-    ensures done { result ≡ true → (h : Echo) × Leaves echoes h front.old front.new }
-    ensures not_done { result ≡ false → front.new ≡ front.old }
+fn let_go(alloc: Global, conn: &mut ServerConnection) -> bool
+    requires { conn.old.output ≡ [] }
+    ensures done { result ≡ true → (h : Echo) × Leaves echoes h conn.old conn.new }
+    ensures not_done { result ≡ false → conn.new ≡ conn.old }
 {
     let mut logged = Logged::new(alloc, Echo);
-    has_left(front.answer(&mut logged))
+    has_left(conn.answer(&mut logged))
 }
 
-/// Answers the request that waits with this payload. It leaves the front, or closes it.
+/// Answers the request that waits with this payload. It leaves the server connection, or closes it.
 ///
 /// # Errors
 ///
 /// Returns `OutOfMemory` if memory runs out. Nothing changes then.
-fn give(alloc: Global, front: &mut Front, payload: Payload<'_>) -> Result<(), GiveRefusal>
-    requires { front.old.output ≡ [] }
-    ensures given { OnOk result (IsGiven (content_of payload.entry) front.old front.new) }
+fn give(alloc: Global, conn: &mut ServerConnection, payload: Payload<'_>) -> Result<(), GiveRefusal>
+    requires { conn.old.output ≡ [] }
+    ensures given { OnOk result (IsGiven (content_of payload.entry) conn.old conn.new) }
     ensures refused { IfErr result (λ refusal. refusal ≡ GiveRefusal.OutOfMemory) }
-    ensures unchanged { OnErr result (front.new ≡ front.old) }
+    ensures unchanged { OnErr result (conn.new ≡ conn.old) }
 {
     let mut logged = Logged::new(alloc, Relayed { payload });
-    if has_left(front.answer(&mut logged)) {
+    if has_left(conn.answer(&mut logged)) {
         Ok(())
     } else {
         Err(GiveRefusal::OutOfMemory)
@@ -90,26 +90,26 @@ impl Downstream {
     pub fn new(alloc: Global, connection: u64) -> Result<Downstream, AllocError>
         ensures { IfOk result (λ d. d ≡ new_downstream connection) }
     {
-        let front = Front::new(alloc, connection)?;
+        let conn = ServerConnection::new(alloc, connection)?;
         Ok(Downstream {
             alloc,
-            front,
+            conn,
             awaited: None,
         })
     }
 
     /// Returns the number of the connection.
     pub fn connection(&self) -> u64
-        ensures { result ≡ self.now.front.server.connection }
+        ensures { result ≡ self.now.conn.server.connection }
     {
-        self.front.connection()
+        self.conn.connection()
     }
 
-    /// Returns whether the front is open, or why it closed.
-    pub fn state(&self) -> FrontState
-        ensures { result ≡ state_of self.now.front }
+    /// Returns whether the server connection is open, or why it closed.
+    pub fn state(&self) -> ConnState
+        ensures { result ≡ state_of self.now.conn }
     {
-        self.front.state()
+        self.conn.state()
     }
 
     /// Returns the call whose reply is awaited, or `None` if none is.
@@ -121,65 +121,66 @@ impl Downstream {
 
     /// Returns the request that waits, passed on or not, or `None` if none does.
     pub fn request(&self) -> Option<Request<'_>>
-        ensures found { IsSome result ↔ (0 < length self.now.front.server.waiting) }
-        ensures shown { IfSome result (λ r. (m : Message) × WaitsAt self.now.front.server 0 m
+        ensures found { IsSome result ↔ (0 < length self.now.conn.server.waiting) }
+        ensures shown { IfSome result (λ r. (m : Message) × WaitsAt self.now.conn.server 0 m
             × (asked r ≡ asked_by m)) }
     {
-        self.front.request()
+        self.conn.request()
     }
 
     /// Returns the bytes that are to be sent.
     pub fn output(&self) -> &[u8]
-        ensures { result.now ≡ self.now.front.output }
+        ensures { result.now ≡ self.now.conn.output }
     {
-        self.front.output()
+        self.conn.output()
     }
 
     /// Drops the first `n` of the bytes that are to be sent, which were sent.
     pub fn sent(&mut self, n: usize)
-        requires { n ≤ length self.old.front.output }
+        requires { n ≤ length self.old.conn.output }
         ensures { self.new ≡ record self.old
-            { front = record (self.old.front) { output = drop n self.old.front.output } } }
+            { conn = record (self.old.conn) { output = drop n self.old.conn.output } } }
     {
-        self.front.sent(n);
+        self.conn.sent(n);
     }
 
-    /// Returns true if bytes are taken: the front is open, no request waits, and all that was put
-    /// out was sent.
+    /// Returns true if bytes are taken: the server connection is open, no request waits, and all
+    /// that was put out was sent.
     pub fn is_ready(&self) -> bool
-        ensures yes { result ≡ true → IsReady self.now.front }
-        ensures no { result ≡ false → IsReady self.now.front → ⊥ }
+        ensures yes { result ≡ true → IsReady self.now.conn }
+        ensures no { result ≡ false → IsReady self.now.conn → ⊥ }
     {
-        self.front.is_ready()
+        self.conn.is_ready()
     }
 
-    /// Takes the first bytes of `piece`, and returns how many, as `Front::feed` does: none if it
-    /// isn't ready. A request that is whole then waits, and bytes with a fault close the front.
+    /// Takes the first bytes of `piece`, and returns how many, as `ServerConnection::feed` does:
+    /// none if it isn't ready. A request that is whole then waits, and bytes with a fault close the
+    /// server connection.
     ///
     /// # Errors
     ///
     /// Returns `OutOfMemory` if memory runs out for a message or a query, which it doesn't inside a
     /// message whose header was taken before. Nothing is taken then.
     pub fn feed(&mut self, piece: &[u8]) -> Result<usize, ReadRefusal>
-        ensures busy { (IsReady self.old.front → ⊥) → (result ≡ Ok 0) × (self.new ≡ self.old) }
+        ensures busy { (IsReady self.old.conn → ⊥) → (result ≡ Ok 0) × (self.new ≡ self.old) }
         ensures within { IfOk result (λ n. n ≤ length piece.now) }
-        ensures taken { IsReady self.old.front
-            → IfOk result (λ n. FrontTakes self.old.front (take n piece.now) self.new.front) }
-        ensures some { IsReady self.old.front → 0 < length piece.now
+        ensures taken { IsReady self.old.conn
+            → IfOk result (λ n. ConnTakes self.old.conn (take n piece.now) self.new.conn) }
+        ensures some { IsReady self.old.conn → 0 < length piece.now
             → IfOk result (λ n. 0 < n) }
         ensures awaited { self.new.awaited ≡ self.old.awaited }
-        ensures refused { OnErr result ((self.old.front.server.held ≡ []) ⊎ CompletesHeader
-            self.old.front.server.limit self.old.front.server.held piece.now) }
+        ensures refused { OnErr result ((self.old.conn.server.held ≡ []) ⊎ CompletesHeader
+            self.old.conn.server.limit self.old.conn.server.held piece.now) }
         ensures unchanged { OnErr result (self.new ≡ self.old) }
     {
-        self.front.feed(piece)
+        self.conn.feed(piece)
     }
 
     /// Tells the downstream that no more bytes come, so that it closes. A closed one stays as it is.
     pub fn end(&mut self)
-        ensures { self.new ≡ record self.old { front = ended_front self.old.front } }
+        ensures { self.new ≡ record self.old { conn = ended_conn self.old.conn } }
     {
-        self.front.end();
+        self.conn.end();
     }
 
     /// Returns the request that waits and wasn't passed on, where all that was put out was sent.
@@ -189,8 +190,8 @@ impl Downstream {
             × (asked r ≡ asked_by m)) }
     {
         if self.awaited.is_some()
-            || self.front.state() != FrontState::Open
-            || !self.front.output().is_empty()
+            || self.conn.state() != ConnState::Open
+            || !self.conn.output().is_empty()
         {
             return None;
         }
@@ -222,7 +223,7 @@ impl Downstream {
             self.awaited = Some(call);
             return Ok(());
         }
-        if let_go(self.alloc, &mut self.front) {
+        if let_go(self.alloc, &mut self.conn) {
             return Ok(());
         }
         self.awaited = Some(call);
@@ -244,8 +245,9 @@ impl Downstream {
         reply.last && self.awaited == Some(call)
     }
 
-    /// Answers the request whose reply is awaited with the reply that `upstream` has ready, and lets
-    /// go of that. An answer that is too large, or for which there is no memory, closes the front.
+    /// Answers the request whose reply is awaited with the reply that `upstream` has ready, and
+    /// lets go of that. An answer that is too large, or for which there is no memory, closes the
+    /// server connection.
     ///
     /// # Errors
     ///
@@ -261,10 +263,10 @@ impl Downstream {
         if !self.awaits(upstream, reply) {
             return Err(GiveRefusal::NotAwaited);
         }
-        if self.front.state() != FrontState::Open {
+        if self.conn.state() != ConnState::Open {
             return Err(GiveRefusal::Closed);
         }
-        give(self.alloc, &mut self.front, reply.payload)?;
+        give(self.alloc, &mut self.conn, reply.payload)?;
         self.awaited = None;
         upstream.release();
         Ok(())

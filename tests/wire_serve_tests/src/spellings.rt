@@ -6,7 +6,7 @@ use std::alloc::Global;
 use wire_msg::{MsgCause, MsgFault};
 use wire_peer::{Echo, Logged, ServerCause};
 use wire_query::{QueryCause, QueryFault};
-use wire_serve::{Front, FrontCause, FrontState};
+use wire_serve::{CloseCause, ConnState, ServerConnection};
 
 /// `{"ismaster": 1}` to `admin.$cmd` as query 3, and the OP_REPLY of id 1 with the body of its
 /// message, `{"ismaster": 1, "$db": "admin"}`.
@@ -37,28 +37,29 @@ const LONG: &[u8] = b"\x01\0\x01\0\x03\0\0\0\0\0\0\0\xd4\x07\0\0";
 
 const COMMAND: &[u8] = b"\x10\0\0\0\x03\0\0\0\0\0\0\0\xda\x07\0\0";
 
-/// What comes, in order, what is sent, and how the front closes at the end of the bytes.
+/// What comes, in order, what is sent, and how the server connection closes at the end of the
+/// bytes.
 struct Row {
     comes: [&'static [u8]; 3],
     sent: [&'static [u8]; 2],
-    cause: FrontCause,
+    cause: CloseCause,
 }
 
-const ENDED: FrontCause = FrontCause::Server(ServerCause::Ended);
+const ENDED: CloseCause = CloseCause::Server(ServerCause::Ended);
 
-const INSIDE: FrontCause = FrontCause::Server(ServerCause::EndedInside);
+const INSIDE: CloseCause = CloseCause::Server(ServerCause::EndedInside);
 
-const NAME: FrontCause = FrontCause::Query(QueryFault {
+const NAME: CloseCause = CloseCause::Query(QueryFault {
     at: 20,
     cause: QueryCause::Collection,
 });
 
-const OPCODE: FrontCause = FrontCause::Server(ServerCause::Message(MsgFault {
+const OPCODE: CloseCause = CloseCause::Server(ServerCause::Message(MsgFault {
     at: 12,
     cause: MsgCause::Opcode(2004),
 }));
 
-const OLDER: FrontCause = FrontCause::Server(ServerCause::Message(MsgFault {
+const OLDER: CloseCause = CloseCause::Server(ServerCause::Message(MsgFault {
     at: 12,
     cause: MsgCause::Opcode(2010),
 }));
@@ -82,7 +83,7 @@ const ROWS: [Row; 9] = [
     Row {
         comes: [MESSAGE, b"\x3a\0\0\0\x03", b""],
         sent: [ANSWER_1, b""],
-        cause: FrontCause::EndedInside,
+        cause: CloseCause::EndedInside,
     },
     Row {
         comes: [QUERY, b"\x21\0\0\0\x07\0\0\0\0\0\0\0\xdd\x07\0\0\0", b""],
@@ -111,22 +112,28 @@ const ROWS: [Row; 9] = [
     },
 ];
 
-/// Feeds a piece, answers what waits, and appends what is put out, until the front takes no more.
-fn serve(front: &mut Front, logged: &mut Logged<Echo>, piece: &[u8], sent: &mut Vec<u8>) -> bool {
+/// Feeds a piece, answers what waits, and appends what is put out, until the server connection
+/// takes no more.
+fn serve(
+    conn: &mut ServerConnection,
+    logged: &mut Logged<Echo>,
+    piece: &[u8],
+    sent: &mut Vec<u8>,
+) -> bool {
     let mut left = piece;
     for _ in 0..400u32 {
-        if !front.output().is_empty() {
-            if sent.extend_from_slice(front.output()).is_err() {
+        if !conn.output().is_empty() {
+            if sent.extend_from_slice(conn.output()).is_err() {
                 return false;
             }
-            let all = front.output().len();
-            front.sent(all);
-        } else if front.waiting() > 0 {
-            if front.answer(logged).is_err() {
+            let all = conn.output().len();
+            conn.sent(all);
+        } else if conn.waiting() > 0 {
+            if conn.answer(logged).is_err() {
                 return false;
             }
         } else {
-            match front.feed(left) {
+            match conn.feed(left) {
                 Ok(0) => return true,
                 Ok(n) => left = &left[n..],
                 Err(_) => return false,
@@ -149,7 +156,7 @@ fn joined(alloc: Global, parts: &[&[u8]]) -> Option<Vec<u8>> {
 fn comes_to(alloc: Global, row: &Row, most: usize) -> bool
     requires { 0 < most }
 {
-    let Ok(mut front) = Front::new(alloc, 1) else {
+    let Ok(mut conn) = ServerConnection::new(alloc, 1) else {
         return false;
     };
     let mut logged = Logged::new(alloc, Echo);
@@ -158,15 +165,15 @@ fn comes_to(alloc: Global, row: &Row, most: usize) -> bool
         return false;
     };
     for piece in bytes.as_slice().chunks(most) {
-        if !serve(&mut front, &mut logged, piece, &mut sent) {
+        if !serve(&mut conn, &mut logged, piece, &mut sent) {
             return false;
         }
     }
-    front.end();
+    conn.end();
     let Some(wanted) = joined(alloc, &row.sent) else {
         return false;
     };
-    front.state() == FrontState::Closed(row.cause) && sent.as_slice() == wanted.as_slice()
+    conn.state() == ConnState::Closed(row.cause) && sent.as_slice() == wanted.as_slice()
 }
 
 #[test]

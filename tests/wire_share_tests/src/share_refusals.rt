@@ -5,7 +5,7 @@ ghost use Rattle.std.specs.Prelude.{◌≤◌};
 use crate::sharing::{ASKED_1, GIVEN_1, PASSED_1, REPLY_1};
 use std::alloc::Global;
 use wire_peer::{CallRefusal, ServerCause};
-use wire_serve::{FrontCause, FrontState};
+use wire_serve::{CloseCause, ConnState};
 use wire_share::{Downstream, GiveRefusal, PassRefusal, Upstream};
 
 /// Feeds a request, and feeds on where memory was refused, which has to take nothing.
@@ -62,9 +62,9 @@ fn goes_through(downstream: &mut Downstream, upstream: &mut Upstream) -> bool {
 fn has_answered(downstream: &mut Downstream, upstream: &mut Upstream) -> Option<bool> {
     let given = goes_through(downstream, upstream);
     match downstream.state() {
-        FrontState::Closed(FrontCause::Server(ServerCause::NoMemory)) => None,
-        FrontState::Open => Some(given && downstream.output() == GIVEN_1),
-        FrontState::Closed(_) => Some(false),
+        ConnState::Closed(CloseCause::Server(ServerCause::NoMemory)) => None,
+        ConnState::Open => Some(given && downstream.output() == GIVEN_1),
+        ConnState::Closed(_) => Some(false),
     }
 }
 

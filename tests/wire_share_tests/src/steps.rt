@@ -5,7 +5,7 @@ ghost use Rattle.std.specs.Prelude.{◌<◌, ◌≤◌};
 
 use std::alloc::Global;
 use wire_peer::{CallRefusal, ClientState, ServerCause};
-use wire_serve::{FrontCause, FrontState};
+use wire_serve::{CloseCause, ConnState};
 use wire_share::{Awaited, Downstream, GiveRefusal, PassRefusal, Upstream};
 
 /// What a client and a connection do, and have to come to.
@@ -108,7 +108,7 @@ fn replies(link: &mut Upstream, message: &[u8]) -> bool {
 /// Answers a client that awaits another reply.
 fn awaits_another(client: &mut Downstream, link: &mut Upstream) -> bool {
     matches!(client.answer(link), Err(GiveRefusal::NotAwaited))
-        && matches!(client.state(), FrontState::Open)
+        && matches!(client.state(), ConnState::Open)
 }
 
 /// Has a client end.
@@ -116,7 +116,7 @@ fn leaves(client: &mut Downstream) -> bool {
     client.end();
     matches!(
         client.state(),
-        FrontState::Closed(FrontCause::Server(ServerCause::Ended))
+        ConnState::Closed(CloseCause::Server(ServerCause::Ended))
     )
 }
 

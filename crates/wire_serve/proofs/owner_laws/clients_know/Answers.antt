@@ -5,7 +5,7 @@ use Rattle.wire_serve.proofs.Beside.{grown_alone}
 use Rattle.wire_serve.proofs.owner_laws.clients_know.Goals as goal
 
 pub returns : goal.returns
-returns g c = λ made first acts hall owned strange turns ends good same runs arrive.
+returns g c = λ made first acts conns owned strange turns ends good same runs arrive.
     let does = g.H.Handler.does in
     let stops = g.H.Handler.stops in
     let at_first = first_servers_of 48000000 made 0 first in

@@ -8,8 +8,8 @@ use Rattle.bsonserver.proofs.serving.Serving.steer.Goals as goal
 pub returns-clause-steered : goal.returns-clause-steered
 returns-clause-steered g c =
     let t = tells g.L.Link.received g.L.Link.sent g.L.Link.ends g.L.Link.waits g.L.Link.failures in
-    let seats = c.args.self.now.hall.seats in
-    steered_by g.H.Handler.does g.H.Handler.stops t g.L.Gated.gate (reply_flow (get seats c.args.key) c.args.self.now.replies.flow) c.in-Some.flow c.args.key c.in-Some-seat.seat.now c.set_gate.result seats c.set_gate.new.self.seats
-    (sym c.in-Some.ensures) (sym c.in-Some-seat.ensures)
-    (subst (λ to. IsGated t g.L.Gated.gate c.args.key to c.set_gate.result seats c.set_gate.new.self.seats)
+    let slots = c.args.self.now.conns.slots in
+    steered_by g.H.Handler.does g.H.Handler.stops t g.L.Gated.gate (reply_flow (get slots c.args.key) c.args.self.now.replies.flow) c.in-Some.flow c.args.key c.in-Some-slot.slot.now c.set_gate.result slots c.set_gate.new.self.slots
+    (sym c.in-Some.ensures) (sym c.in-Some-slot.ensures)
+    (subst (λ to. IsGated t g.L.Gated.gate c.args.key to c.set_gate.result slots c.set_gate.new.self.slots)
     (c.gate_after.ensures ∙ ap (gate_after c.in-Some.flow) (c.gate-gate.ensures ∙ ap g.L.Gated.gate c.link.ensures)) c.set_gate.ensures.gated)

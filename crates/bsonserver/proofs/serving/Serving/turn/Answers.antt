@@ -15,19 +15,19 @@ returns-in_ok-close-in-Over-clause-turned g c =
     let old = c.args.self.now in
     let made = c.turn.new.self.logged in
     let follows = subst (λ es. Follows old.replies (log_of es) c.follow.new.self) c.entries.ensures c.in-Ok.ensures in
-    let seat = c.in-Some.ensures.turned.1 in
+    let slot = c.in-Some.ensures.turned.1 in
     let there = c.in-Some.ensures.turned.3.changed in
-    let stays = subst (λ s. get s c.args.key ≡ Some seat) (sym c.tell.ensures.seats) there in
+    let stays = subst (λ s. get s c.args.key ≡ Some slot) (sym c.tell.ensures.slots) there in
     let before = g.W.Write.contents c.args.out.now in
     let after = g.W.Write.contents c.close.new.out in
     subst (λ (how : Turned). TakesTurn g.H.Handler.does g.H.Handler.stops t g.L.Gated.gate c.args.key how old c.close.new.self before after) c.in-Over.is
-    (turns_over g.H.Handler.does g.H.Handler.stops t g.L.Gated.gate old c.close.new.self c.turn.new.self.seats made c.args.key _ c.in-Some.turned c.in-Over.leave seat _ (g.W.Write.contents c.tell.new.out) _
+    (turns_over g.H.Handler.does g.H.Handler.stops t g.L.Gated.gate old c.close.new.self c.turn.new.self.slots made c.args.key _ c.in-Some.turned c.in-Over.leave slot _ (g.W.Write.contents c.tell.new.out) _
     c.steps-steps.ensures c.in-Over.is c.in-Some.ensures.turned
     (subst (λ l. IsForgotten made l) (sym c.close.ensures.logged) (c.in_ok-tell.ensures.forgotten, c.tell.ensures.handler)) there
-    (subst (λ s. Updates s c.close.new.self.hall.seats c.args.key None) c.tell.ensures.seats c.in_ok-close-in-Over.ensures.seats)
+    (subst (λ s. Updates s c.close.new.self.conns.slots c.args.key None) c.tell.ensures.slots c.in_ok-close-in-Over.ensures.slots)
     (ap (λ (u : ReplyRules). u.script.rules.items) c.close.ensures.replies ∙ follows.0)
-    (c.close.ensures.next ∙ c.tell.ensures.next ∙ c.turn.ensures.next) (c.close.ensures.ended seat stays)
-    c.in_ok-tell.ensures.told (c.in_ok-close-in-Over.ensures.told seat stays))
+    (c.close.ensures.next ∙ c.tell.ensures.next ∙ c.turn.ensures.next) (c.close.ensures.ended slot stays)
+    c.in_ok-tell.ensures.told (c.in_ok-close-in-Over.ensures.told slot stays))
 
 pub returns-in_ok-close-in-Over-clause-served : goal.returns-in_ok-close-in-Over-clause-served
 returns-in_ok-close-in-Over-clause-served g c =
@@ -41,11 +41,11 @@ returns-in-Again-clause-turned g c =
     let key = c.args.key in
     let made = c.turn.new.self.logged in
     let follows = subst (λ es. Follows old.replies (log_of es) c.follow.new.self) c.entries.ensures c.in-Ok.ensures in
-    let steered = subst (λ s. IsSteered t g.L.Gated.gate (reply_flow (get s key) c.follow.new.self.flow) key s c.steer.new.self.hall.seats) c.tell.ensures.seats c.steer.ensures.steered in
-    turns_on g.H.Handler.does g.H.Handler.stops t g.L.Gated.gate old c.steer.new.self c.turn.new.self.seats made key _ c.in-Some.turned _ _
+    let steered = subst (λ s. IsSteered t g.L.Gated.gate (reply_flow (get s key) c.follow.new.self.flow) key s c.steer.new.self.conns.slots) c.tell.ensures.slots c.steer.ensures.steered in
+    turns_on g.H.Handler.does g.H.Handler.stops t g.L.Gated.gate old c.steer.new.self c.turn.new.self.slots made key _ c.in-Some.turned _ _
     c.in-Again.is c.steps-steps.ensures c.in-Some.ensures.turned
     (subst (λ l. IsForgotten made l) (sym c.steer.ensures.logged) (c.in_ok-tell.ensures.forgotten, c.tell.ensures.handler))
-    (subst (λ f. IsSteered t g.L.Gated.gate (reply_flow (get c.turn.new.self.seats key) f) key c.turn.new.self.seats c.steer.new.self.hall.seats) follows.1 steered)
+    (subst (λ f. IsSteered t g.L.Gated.gate (reply_flow (get c.turn.new.self.slots key) f) key c.turn.new.self.slots c.steer.new.self.conns.slots) follows.1 steered)
     (ap (λ (u : ReplyRules). u.script.rules.items) c.steer.ensures.replies ∙ follows.0)
     (c.steer.ensures.next ∙ c.tell.ensures.next ∙ c.turn.ensures.next) c.steer.ensures.ended
     c.in_ok-tell.ensures.told

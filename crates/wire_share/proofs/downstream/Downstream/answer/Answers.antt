@@ -14,10 +14,10 @@ returns c =
       whole.0,
       search rules,
       awaits,
-      subst (λ (d : DownSeen). WaitsAt d.front.server 0 waits.0) c.self.view_is waits.1,
+      subst (λ (d : DownSeen). WaitsAt d.conn.server 0 waits.0) c.self.view_is waits.1,
       whole.1,
-      gives_own c.in-Some.reply.payload whole.0 c.args.self.now.front c.give.new.front (c.in-Some.ensures.payload whole.0 whole.1)
-          (subst (λ (d : DownSeen). IsGiven (content_of c.in-Some.reply.payload) d.front c.give.new.front) c.self.view_is c.in_ok-give.ensures.given),
+      gives_own c.in-Some.reply.payload whole.0 c.args.self.now.conn c.give.new.conn (c.in-Some.ensures.payload whole.0 whole.1)
+          (subst (λ (d : DownSeen). IsGiven (content_of c.in-Some.reply.payload) d.conn c.give.new.conn) c.self.view_is c.in_ok-give.ensures.given),
       refl,
       c.release.ensures,
     )

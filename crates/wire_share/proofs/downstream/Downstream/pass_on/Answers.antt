@@ -1,6 +1,6 @@
 use Rattle.std.proofs.Common.{ap, ◌∙◌, refl, sym, Some}
 use Rattle.wire_peer.specs.{Asked}
-use Rattle.wire_serve.specs.{FrontView}
+use Rattle.wire_serve.specs.{ConnView}
 use Rattle.wire_share.specs.Sharing.{DownSeen, of_call}
 use Rattle.wire_share.specs.declared.awaited.Awaited.{Awaited}
 use Rattle.wire_share.proofs.Passing.{awaited_on, left_on, passed, passes_on}
@@ -19,7 +19,7 @@ pub returns-then-let_go : goal.returns-then-let_go
 returns-then-let_go c =
     passes_on c.args.self.now _ c.args.upstream.now c.call.new.self c.in-Some.request c.in-Ok.call c.in-Some.ensures.some c.in-Ok.ensures.called
     (rw (← c.self.view_is)
-    (left_on (record { front = c.self.inside.front; awaited = c.self.inside.awaited }) _ c.in-Some.request.more_to_come c.in-Ok.call c.if-not-wants_none.false
+    (left_on (record { conn = c.self.inside.conn; awaited = c.self.inside.awaited }) _ c.in-Some.request.more_to_come c.in-Ok.call c.if-not-wants_none.false
     (c.let_go.ensures.done c.if-let_go.true) (ap (λ (d : DownSeen). d.awaited) c.self.view_is ∙ c.in-Some.ensures.some.1.free)))
 
 pub returns : goal.returns
@@ -33,6 +33,6 @@ returns c =
       found.1,
       sym more ∙ c.if-not-wants_none.false,
       passed c.args.self.now c.args.upstream.now c.call.new.self c.in-Some.request c.in-Ok.call found.0 found.2 made.0 made.2 made.3,
-      ap (λ (call : Awaited). record { front = c.let_go.new.front; awaited = Some call }) made.1
-          ∙ ap (λ (front : FrontView). record { front = front; awaited = Some (of_call c.args.upstream.now made.0) }) (c.let_go.ensures.not_done c.if-let_go.false ∙ ap (λ (d : DownSeen). d.front) c.self.view_is),
+      ap (λ (call : Awaited). record { conn = c.let_go.new.conn; awaited = Some call }) made.1
+          ∙ ap (λ (conn : ConnView). record { conn = conn; awaited = Some (of_call c.args.upstream.now made.0) }) (c.let_go.ensures.not_done c.if-let_go.false ∙ ap (λ (d : DownSeen). d.conn) c.self.view_is),
     )

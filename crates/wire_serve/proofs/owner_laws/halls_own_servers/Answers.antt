@@ -1,8 +1,0 @@
-use Rattle.wire_serve.specs.Seats.{tells}
-use Rattle.wire_serve.proofs.Halls.{owns}
-use Rattle.wire_serve.proofs.owner_laws.halls_own_servers.Goals as goal
-
-pub returns : goal.returns
-returns g c = λ made first acts old new one_each begins run.
-    let L = g.L.Link in
-    owns g.H.Handler.does g.H.Handler.stops (tells L.received L.sent L.ends L.waits L.failures) made first one_each acts old new begins run
