@@ -6,10 +6,10 @@ use Rattle.std.proofs.lemmas.List.{drop_more, nil_from_length, take_more}
 use Rattle.std.specs.List.{concat, flat_map}
 use Rattle.framing.specs.Cutting.{Cuts, IsHeldOf, all, header, lead}
 use Rattle.framing.specs.Gathering.{Gathered, Gathers, IsHeld, held_header, held_lead, held_open}
-use Rattle.framing.specs.Items.{Announces, HasLead, IsRefused, IsWholeItem, LacksLead, WantsMore, at_open, at_refused, by_header, by_lead, of_header, of_item, of_lead}
+use Rattle.framing.specs.Items.{Announces, HasLead, IsItem, IsRefused, IsWholeItem, LacksLead, WantsMore, at_open, at_refused, by_header, by_lead, of_header, of_item, of_lead}
 use Rattle.framing.specs.Rules.{IsSound, Rule}
 use Rattle.framing.proofs.ItemLaws.{announces_longer, lacks_longer, leads_longer, leads_not_lacks, leads_or_lacks, not_both, one_length, refused_longer, refused_not_whole, wants_not_refused, whole_size}
-use Rattle.framing.proofs.Splits.{cut_more, none_at_end, one_split}
+use Rattle.framing.proofs.Splits.{cut_more, none_at_end, one_split, split_of_all}
 
 -- ---- one more feed
 
@@ -123,11 +123,9 @@ nothing_gathered rule items held none empty = rw (none, empty) (record { items_a
 cuts_refused : {E : Type 0} (rule : Rule E) (bytes front untaken held : List ℕ) (found : List (List ℕ)) (fault : E) → bytes ≡ front ++ untaken → Gathered rule front found held → IsRefused rule held fault → IsHeldOf rule (held ++ untaken) held → Cuts rule bytes found held
 cuts_refused rule bytes front untaken held found fault is g r of_rest = record {
   rest = held ++ untaken;
-  split = record {
-    items_are = g.items_are;
-    parts = is ∙ ap (λ (x : List ℕ). x ++ untaken) g.parts ∙ append_assoc (concat found) held untaken;
-    none_begins = none_at_end rule (held ++ untaken) (at_refused fault (refused_longer rule held untaken fault r));
-  };
+  split = split_of_all (IsItem rule) bytes found (held ++ untaken) g.items_are
+      (is ∙ ap (λ (x : List ℕ). x ++ untaken) g.parts ∙ append_assoc (concat found) held untaken)
+      (none_at_end rule (held ++ untaken) (at_refused fault (refused_longer rule held untaken fault r)));
   of_rest = of_rest;
 }
 
@@ -145,7 +143,7 @@ cuts_header rule bytes front untaken held found fault is g r size = cuts_refused
 pub cuts_all : {E : Type 0} (rule : Rule E) (bytes held : List ℕ) (found : List (List ℕ)) → Gathered rule bytes found held → IsHeld rule held → Cuts rule bytes found held
 cuts_all rule bytes held found g (held_open more o) = record {
   rest = held;
-  split = record { items_are = g.items_are; parts = g.parts; none_begins = none_at_end rule held (at_open more o) };
+  split = split_of_all (IsItem rule) bytes found held g.items_are g.parts (none_at_end rule held (at_open more o));
   of_rest = all more o refl;
 }
 cuts_all rule bytes held found g (held_lead fault k size) = cuts_lead rule bytes bytes [] held found fault (sym (append-nil bytes)) g k size

@@ -1,7 +1,7 @@
 -- Items that stand back to back, and what is known of bytes that more may follow: they are too few,
 -- begin with an item, or with a lead or a header that no item has.
 use Rattle.std.specs.Prelude.{◌≡◌, ℕ, ◌+◌, ◌<◌, ◌≤◌, List, length, take, Result, Ok, Err}
-use Rattle.framing.specs.Splits.{AreAll, BeginsWith, IsSplit}
+use Rattle.framing.specs.Splits.{AreAll, BeginsWith, BeginsWithNone, IsSplit}
 use Rattle.framing.specs.Rules.{Rule}
 
 -- The bytes have a lead, and it passes.
@@ -56,7 +56,7 @@ AreItems rule items = AreAll (IsItem rule) items
 
 -- no item is at the front of the bytes
 abbrev pub BeginsNone : {E : Type 0} → Rule E → List ℕ → Type 0
-BeginsNone rule bytes = (item rest : List ℕ) → IsWholeItem rule bytes item rest → ⊥
+BeginsNone rule bytes = BeginsWithNone (IsItem rule) bytes
 
 -- the bytes are items, one after another, and then a rest that begins with none
 abbrev pub ItemSplit : {E : Type 0} → Rule E → List ℕ → List (List ℕ) → List ℕ → Type 0

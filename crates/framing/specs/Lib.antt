@@ -16,4 +16,5 @@ pub use Rattle.framing.specs.Items.{WantsMore}
 pub use Rattle.framing.specs.Lengths.{bounded, bounded_least}
 pub use Rattle.framing.specs.Readers.{Reading}
 pub use Rattle.framing.specs.Rules.{IsSound, Rule}
-pub use Rattle.framing.specs.Splits.{AreAll, BeginsWith, IsPrefixFree, IsSplit}
+pub use Rattle.framing.specs.Splits.{AreAll, BackToBack, BeginsOnce, BeginsWith, BeginsWithNone}
+pub use Rattle.framing.specs.Splits.{IsItself, IsPrefixFree, IsSplit, SpellEach, SplitsInto}

@@ -5,8 +5,11 @@
 //! the item in front of bytes, and a `Reader` makes items of bytes that come in pieces. However
 //! these are cut, they give the same items (`read_pieces`).
 //!
-//! Stands on std alone. Used by wire_frames. Read first: `specs/Rules.antt`, `specs/Items.antt`,
-//! and then `framing`.
+//! What items back to back are, whatever an item is and however it is spelled, is defined once in
+//! `specs/Splits.antt`: bson_raw says so of documents, and wire_msg of messages.
+//!
+//! Stands on std alone. Used by bson_raw, wire_msg, their streams and wire_frames. Read first:
+//! `specs/Splits.antt`, `specs/Rules.antt`, `specs/Items.antt`, and then `framing`.
 #![tactic(auto)]
 
 mod first_item;

@@ -1,15 +1,15 @@
 -- Frames are the items of their rule.
-use Rattle.std.proofs.Common.{◌≡◌, ◌⊎◌, inl, inr, ℕ, ◌+◌, ◌<◌, List, [], ◌∷◌, length, take, refl, sym, ap, subst, ◌∙◌, arith}
+use Rattle.std.proofs.Common.{◌≡◌, ◌⊎◌, inl, inr, ℕ, ◌+◌, ◌<◌, List, length, take, refl, sym, ap, subst, ◌∙◌, arith}
 use Rattle.framing.specs.Items as items
-use Rattle.framing.specs.{AreItems, HasLead, IsEnd, IsItem, IsRefused, IsWholeItem, ItemSplit, bounded}
-use Rattle.framing.proofs.Lemmas.{is_within, outside, outside_is, within_is}
+use Rattle.framing.specs.{BeginsNone, HasLead, IsEnd, IsItem, IsItself, IsRefused, IsWholeItem, ItemSplit, bounded}
+use Rattle.framing.proofs.Lemmas.{is_within, outside, outside_is, splits_along, within_is}
 use Rattle.wire_msg.specs.declared.fault.MsgFault.{MsgFault}
 use Rattle.wire_msg.specs.declared.fault.MsgCause.TheVariants.{Length}
 use Rattle.wire_msg.specs.declared.header.MsgHeader.{MsgHeader}
 use Rattle.wire_msg.specs.{msg_fault, number_at}
 use Rattle.wire_msg.proofs.Lemmas.{header_of-take}
 use Rattle.wire_frames.specs.FrameRule.{frame_rule}
-use Rattle.wire_frames.specs.Frames.{AreFrames, FrameSplit, IsFrame, IsWholeFrame, LacksFrame, WantsMore, of_frame, of_header}
+use Rattle.wire_frames.specs.Frames.{BeginsNoFrame, FrameSplit, IsFrame, IsWholeFrame, LacksFrame, WantsMore, of_frame, of_header}
 
 -- the length in the first 16 bytes is that of all
 in_header : (bytes : List ℕ) → number_at (take 16 bytes) 0 ≡ number_at bytes 0
@@ -79,24 +79,12 @@ to_end limit rest (items.at_refused f r) = inr (to_lacks limit rest f r).0
 
 -- ---- frames, one after another
 
-are_frames : (limit : ℕ) (xs : List (List ℕ)) → AreItems (frame_rule limit) xs → AreFrames limit xs
-are_frames limit [] all = tt
-are_frames limit (x ∷ xs) all = (to_frame limit x all.0, are_frames limit xs all.1)
-
-are_items : (limit : ℕ) (xs : List (List ℕ)) → AreFrames limit xs → AreItems (frame_rule limit) xs
-are_items limit [] all = tt
-are_items limit (x ∷ xs) all = (of_frame_is limit x all.0, are_items limit xs all.1)
-
 pub to_split : (limit : ℕ) (bytes : List ℕ) (frames : List (List ℕ)) (rest : List ℕ) → ItemSplit (frame_rule limit) bytes frames rest → FrameSplit limit bytes frames rest
-to_split limit bytes frames rest s = record {
-  frames_are = are_frames limit frames s.items_are;
-  parts = s.parts;
-  none_begins = λ frame after w. s.none_begins frame after (of_whole limit rest frame after w);
-}
+to_split limit bytes frames rest =
+    splits_along (IsItself (IsItem (frame_rule limit))) (IsItself (IsFrame limit)) (BeginsNone (frame_rule limit)) (BeginsNoFrame limit) bytes frames rest (λ x b i. (to_frame limit x i.0, i.1))
+    (λ none frame after w. none frame after (of_whole limit rest frame after w))
 
 pub of_split : (limit : ℕ) (bytes : List ℕ) (frames : List (List ℕ)) (rest : List ℕ) → FrameSplit limit bytes frames rest → ItemSplit (frame_rule limit) bytes frames rest
-of_split limit bytes frames rest s = record {
-  items_are = are_items limit frames s.frames_are;
-  parts = s.parts;
-  none_begins = λ frame after w. s.none_begins frame after (to_whole limit rest frame after w);
-}
+of_split limit bytes frames rest =
+    splits_along (IsItself (IsFrame limit)) (IsItself (IsItem (frame_rule limit))) (BeginsNoFrame limit) (BeginsNone (frame_rule limit)) bytes frames rest (λ x b i. (of_frame_is limit x i.0, i.1))
+    (λ none frame after w. none frame after (to_whole limit rest frame after w))

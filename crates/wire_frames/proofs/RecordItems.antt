@@ -1,12 +1,12 @@
 -- Records are the items of their rule.
-use Rattle.std.proofs.Common.{◌≡◌, ◌⊎◌, inl, inr, ℕ, ◌+◌, ◌-◌, ◌<◌, ◌≤◌, ◌^◌, List, [], ◌∷◌, Ok, Err, length, take, drop, refl, sym, ap, subst, ◌∙◌, arith, length-drop, take_all}
+use Rattle.std.proofs.Common.{◌≡◌, ◌⊎◌, inl, inr, ℕ, ◌+◌, ◌-◌, ◌<◌, ◌≤◌, ◌^◌, List, Ok, Err, length, take, drop, refl, sym, ap, subst, ◌∙◌, arith, length-drop, take_all}
 use Rattle.std.specs.Int.{w32, from_le_bytes}
 use Rattle.std.proofs.lemmas.Bool.{cases_lt}
 use Rattle.std.proofs.lemmas.Bool.Decides.{nat_tests}
 use Rattle.std.proofs.lemmas.List.{drop-take, take-take}
 use Rattle.framing.specs.Items as items
-use Rattle.framing.specs.{AreItems, HasLead, IsEnd, IsItem, IsRefused, IsWholeItem, ItemSplit, bounded}
-use Rattle.framing.proofs.Lemmas.{is_within, outside, outside_is, within_is}
+use Rattle.framing.specs.{BeginsNone, HasLead, IsEnd, IsItem, IsItself, IsRefused, IsWholeItem, ItemSplit, bounded}
+use Rattle.framing.proofs.Lemmas.{is_within, outside, outside_is, splits_along, within_is}
 use Rattle.wire_msg.specs.{number_at}
 use Rattle.wire_frames.specs.declared.fault.RecordFault.{RecordFault}
 use Rattle.wire_frames.specs.declared.fault.RecordCause.TheVariants as causes
@@ -15,7 +15,7 @@ use Rattle.wire_frames.specs.Frames as frames
 use Rattle.wire_frames.specs.Heads as heads
 use Rattle.wire_frames.specs.Heads.{HeadFault, IsGoodHead, connection_at, direction_at}
 use Rattle.wire_frames.specs.RecordRule.{checked_numbers, record_rule}
-use Rattle.wire_frames.specs.Records.{AreRecords, IsAtFault, IsRecord, IsWholeRecord, RecordSplit, WantsMore, head_of, message_of, of_head, of_message}
+use Rattle.wire_frames.specs.Records.{BeginsNoRecord, IsAtFault, IsRecord, IsWholeRecord, RecordSplit, WantsMore, head_of, message_of, of_head, of_message}
 
 abbrev length_fault : RecordFault
 length_fault = record_fault 20 causes.Length
@@ -197,24 +197,12 @@ to_end limit rest (items.at_refused f r) = inr (f, to_fault limit rest f r)
 
 -- ---- records, one after another
 
-are_records : (limit : ℕ) (xs : List (List ℕ)) → AreItems (record_rule limit) xs → AreRecords limit xs
-are_records limit [] all = tt
-are_records limit (x ∷ xs) all = (to_record limit x all.0, are_records limit xs all.1)
-
-are_items : (limit : ℕ) (xs : List (List ℕ)) → AreRecords limit xs → AreItems (record_rule limit) xs
-are_items limit [] all = tt
-are_items limit (x ∷ xs) all = (of_record limit x all.0, are_items limit xs all.1)
-
 pub to_split : (limit : ℕ) (bytes : List ℕ) (records : List (List ℕ)) (rest : List ℕ) → ItemSplit (record_rule limit) bytes records rest → RecordSplit limit bytes records rest
-to_split limit bytes records rest s = record {
-  records_are = are_records limit records s.items_are;
-  parts = s.parts;
-  none_begins = λ one after w. s.none_begins one after (of_whole limit rest one after w);
-}
+to_split limit bytes records rest =
+    splits_along (IsItself (IsItem (record_rule limit))) (IsItself (IsRecord limit)) (BeginsNone (record_rule limit)) (BeginsNoRecord limit) bytes records rest (λ x b i. (to_record limit x i.0, i.1))
+    (λ none one after w. none one after (of_whole limit rest one after w))
 
 pub of_split : (limit : ℕ) (bytes : List ℕ) (records : List (List ℕ)) (rest : List ℕ) → RecordSplit limit bytes records rest → ItemSplit (record_rule limit) bytes records rest
-of_split limit bytes records rest s = record {
-  items_are = are_items limit records s.records_are;
-  parts = s.parts;
-  none_begins = λ one after w. s.none_begins one after (to_whole limit rest one after w);
-}
+of_split limit bytes records rest =
+    splits_along (IsItself (IsRecord limit)) (IsItself (IsItem (record_rule limit))) (BeginsNoRecord limit) (BeginsNone (record_rule limit)) bytes records rest (λ x b i. (of_record limit x i.0, i.1))
+    (λ none one after w. none one after (to_whole limit rest one after w))

@@ -1,11 +1,12 @@
 -- The records that were written one after another are those that are read.
 use Rattle.std.proofs.Common.{◌≡◌, ℕ, ◌==◌, ◌&&◌, if◌then◌else◌, List, [], ◌∷◌, ◌++◌, map, refl, sym, ap, ◌∙◌, append-nil, arith}
 use Rattle.std.specs.List.{concat}
+use Rattle.framing.proofs.Lemmas.{all_joined}
 use Rattle.wire_msg.specs.{number_at}
 use Rattle.wire_frames.specs.Frames.{IsFrame}
 use Rattle.wire_frames.specs.declared.head.Direction.{Direction}
 use Rattle.wire_frames.specs.Heads.{direction_at, direction_number, signature}
-use Rattle.wire_frames.specs.Records.{AreRecords, IsWholeRecord, RecordSplit, head_of, message_of}
+use Rattle.wire_frames.specs.Records.{AreRecords, IsRecord, IsWholeRecord, RecordSplit, head_of, message_of}
 use Rattle.wire_frames.specs.Written.{AreEntries, Entry, entry_bytes, messages_on, written_on}
 use Rattle.wire_frames.proofs.RecordLaws.{whole_parts}
 use Rattle.wire_frames.proofs.Heads.{reads_back, written_is}
@@ -20,9 +21,10 @@ none_in_nothing limit one after w = let p = whole_parts limit [] one after w in 
 
 pub written_split : (limit : ℕ) (es : List Entry) → AreEntries limit es → RecordSplit limit (concat (map entry_bytes es)) (map entry_bytes es) []
 written_split limit es are = record {
-  records_are = all_records limit es are;
+  joined = concat (map entry_bytes es);
+  spelled = all_joined (IsRecord limit) (map entry_bytes es) (all_records limit es are);
   parts = sym (append-nil (concat (map entry_bytes es)));
-  none_begins = none_in_nothing limit;
+  ends = none_in_nothing limit;
 }
 
 -- a message in front of others, if it is of the connection and the direction

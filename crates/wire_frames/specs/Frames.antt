@@ -1,7 +1,7 @@
 -- Whole messages of any opCode (MongoDB Wire Protocol manual: Standard Message Header), and what is
 -- known of bytes that more may follow: they are too few, begin with a frame, or with none.
-use Rattle.std.specs.Prelude.{◌≡◌, ℕ, ◌+◌, ◌<◌, ◌≤◌, ◌⊎◌, List, [], ◌∷◌, ◌++◌, length, ⊤}
-use Rattle.std.specs.List.{concat}
+use Rattle.std.specs.Prelude.{◌≡◌, ℕ, ◌+◌, ◌<◌, ◌≤◌, ◌⊎◌, List, ◌++◌, length}
+use Rattle.framing.specs.{AreAll, IsItself, SplitsInto}
 use Rattle.wire_msg.specs.{number_at}
 
 -- The bytes are a header and what follows it, and messageLength is their number.
@@ -45,13 +45,14 @@ pub data StandsAs (limit : ℕ) (bytes : List ℕ) : Type 0 where
 
 -- each of the byte lists is a frame within the limit
 abbrev pub AreFrames : ℕ → List (List ℕ) → Type 0
-AreFrames limit [] = ⊤
-AreFrames limit (f ∷ fs) = IsFrame limit f × AreFrames limit fs
+AreFrames limit frames = AreAll (IsFrame limit) frames
 
--- The bytes are frames, one after another, and then a rest that begins with no frame within the
--- limit.
-pub record FrameSplit (limit : ℕ) (bytes : List ℕ) (frames : List (List ℕ))
-    (rest : List ℕ) : Type 0 where
-  pub frames_are : AreFrames limit frames
-  pub parts : bytes ≡ concat frames ++ rest
-  pub none_begins : (frame after : List ℕ) → IsWholeFrame limit rest frame after → ⊥
+-- no frame within the limit is at the front of the bytes
+abbrev pub BeginsNoFrame : ℕ → List ℕ → Type 0
+BeginsNoFrame limit bytes = (frame after : List ℕ) → IsWholeFrame limit bytes frame after → ⊥
+
+-- the bytes are frames, one after another, and then a rest that begins with no frame within the
+-- limit
+abbrev pub FrameSplit : ℕ → List ℕ → List (List ℕ) → List ℕ → Type 0
+FrameSplit limit bytes frames rest =
+    SplitsInto (IsItself (IsFrame limit)) (BeginsNoFrame limit) bytes frames rest

@@ -18,8 +18,8 @@ pub mod RecordReaders
 -- the words that clauses of other crates cite
 pub use Rattle.wire_frames.specs.Checksums.{IsChecksumOf}
 pub use Rattle.wire_frames.specs.Crc32c.{crc32c_of}
-pub use Rattle.wire_frames.specs.Frames.{AreFrames, FrameSplit, IsFrame, IsWholeFrame, LacksFrame}
-pub use Rattle.wire_frames.specs.Frames.{WantsMore}
+pub use Rattle.wire_frames.specs.Frames.{AreFrames, BeginsNoFrame, FrameSplit, IsFrame}
+pub use Rattle.wire_frames.specs.Frames.{IsWholeFrame, LacksFrame, WantsMore}
 pub use Rattle.wire_frames.specs.Fronts.{IsFrontFrame}
 pub use Rattle.wire_frames.specs.Opcodes.{IsOwnKind, opcode_number}
 pub use Rattle.wire_frames.specs.RawFrame.{frame_bytes}
@@ -30,6 +30,6 @@ pub use Rattle.wire_frames.specs.Heads.{HasHead, IsConnection, direction_number,
 pub use Rattle.wire_frames.specs.RawRecord.{record_bytes}
 pub use Rattle.wire_frames.specs.RecordFronts.{IsFrontRecord}
 pub use Rattle.wire_frames.specs.RecordReaders.{RecordReading}
-pub use Rattle.wire_frames.specs.Records.{AreRecords, IsAtFault, IsRecord, IsWholeRecord}
-pub use Rattle.wire_frames.specs.Records.{RecordSplit, head_of, message_of}
+pub use Rattle.wire_frames.specs.Records.{AreRecords, BeginsNoRecord, IsAtFault, IsRecord}
+pub use Rattle.wire_frames.specs.Records.{IsWholeRecord, RecordSplit, head_of, message_of}
 pub use Rattle.wire_frames.specs.Written.{Entry, record_of}

@@ -1,7 +1,7 @@
 -- Records, which are a head of 20 bytes and a message of any opCode; and what is known of bytes to
 -- which more may come: they are too few, begin with a record, or are at fault.
-use Rattle.std.specs.Prelude.{◌≡◌, ℕ, ◌+◌, ◌<◌, ◌≤◌, List, [], ◌∷◌, ◌++◌, drop, length, take, ⊤}
-use Rattle.std.specs.List.{concat}
+use Rattle.std.specs.Prelude.{◌≡◌, ℕ, ◌+◌, ◌<◌, ◌≤◌, List, ◌++◌, drop, length, take}
+use Rattle.framing.specs.{AreAll, IsItself, SplitsInto}
 use Rattle.wire_frames.specs.Frames as frames
 use Rattle.wire_frames.specs.Frames.{IsFrame, LacksFrame}
 use Rattle.wire_frames.specs.declared.fault.RecordFault.{RecordFault}
@@ -51,12 +51,13 @@ pub data StandsAs (limit : ℕ) (bytes : List ℕ) : Type 0 where
 
 -- each of the byte lists is a record
 abbrev pub AreRecords : ℕ → List (List ℕ) → Type 0
-AreRecords limit [] = ⊤
-AreRecords limit (r ∷ rs) = IsRecord limit r × AreRecords limit rs
+AreRecords limit records = AreAll (IsRecord limit) records
 
--- The bytes are records, one after another, and then a rest that begins with no record.
-pub record RecordSplit (limit : ℕ) (bytes : List ℕ) (records : List (List ℕ))
-    (rest : List ℕ) : Type 0 where
-  pub records_are : AreRecords limit records
-  pub parts : bytes ≡ concat records ++ rest
-  pub none_begins : (one after : List ℕ) → IsWholeRecord limit rest one after → ⊥
+-- no record is at the front of the bytes
+abbrev pub BeginsNoRecord : ℕ → List ℕ → Type 0
+BeginsNoRecord limit bytes = (one after : List ℕ) → IsWholeRecord limit bytes one after → ⊥
+
+-- the bytes are records, one after another, and then a rest that begins with no record
+abbrev pub RecordSplit : ℕ → List ℕ → List (List ℕ) → List ℕ → Type 0
+RecordSplit limit bytes records rest =
+    SplitsInto (IsItself (IsRecord limit)) (BeginsNoRecord limit) bytes records rest
