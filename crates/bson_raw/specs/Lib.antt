@@ -21,5 +21,6 @@ pub use Rattle.bson_raw.specs.RawBson.{Shows, ShowsFound, held_len}
 pub use Rattle.bson_raw.specs.RawDocument.{document_bytes}
 pub use Rattle.bson_raw.specs.RawIter.{PairsLeft, pairs_bound, walked_len}
 pub use Rattle.bson_raw.specs.Spelled.{IsSpelled, WholeFault}
-pub use Rattle.bson_raw.specs.Split.{AreDocuments, DocumentSplit, IsDocument, documents_bytes}
+pub use Rattle.bson_raw.specs.Split.{AreDocuments, DocumentSplit, EndsDocuments, IsDocument}
+pub use Rattle.bson_raw.specs.Split.{documents_bytes}
 pub use Rattle.bson_raw.specs.Totals.{elements_in, sizes_in}

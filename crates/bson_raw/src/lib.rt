@@ -9,7 +9,7 @@
 //! `totals` counts what a document holds at all depths. `laws` proves that bytes split into
 //! documents and a rest in exactly one way.
 //!
-//! Uses bson_elem. Used by bson_text, bson_doc and wire_msg. Read first: `document`, and then
+//! Uses bson_elem and framing. Used by bson_text, bson_doc and wire_msg. Read first: `document`, and then
 //! `check`.
 #![tactic(auto)]
 

@@ -51,7 +51,7 @@ one_told : (bytes : List ℕ) (ts us : List Tree) (rest after : List ℕ) (x y :
 one_told bytes ts us rest after x y fits s s' ends ends' =
     let same = same_split bytes ts us rest after fits s s' in
     let other = subst (λ (z : List ℕ). EndsAs (length (documents_bytes ts)) z y) (sym same.1) (subst (λ (z : List Tree). EndsAs (length (documents_bytes z)) after y) (sym same.0) ends') in
-    (same.0, one_end (length (documents_bytes ts)) rest x y (IsBytes-after (documents_bytes ts) rest (subst IsBytes s.parts fits)) ends other)
+    (same.0, one_end (length (documents_bytes ts)) rest x y (IsBytes-after s.joined rest (subst IsBytes s.parts fits)) ends other)
 
 pub one_documents_check : (bytes : List ℕ) (a b : DocumentsCheck) → IsBytes bytes → IsDocumentsCheck bytes a → IsDocumentsCheck bytes b → a ≡ b
 one_documents_check bytes a b fits r s =

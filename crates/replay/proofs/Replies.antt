@@ -6,9 +6,9 @@ use Rattle.std.specs.Int.{w32, cast_signed, from_le_bytes}
 use Rattle.std.specs.Str.{bytes_eq}
 use Rattle.std.proofs.lemmas.Slice.Eq.{bytes_eq-Decides}
 use Rattle.bson_elem.specs.declared.fault.BsonFault.{BsonFault}
-use Rattle.bson_elem.specs.{FrontFault, Spells, Tree, document, elements}
+use Rattle.bson_elem.specs.{FrontFault, Spells, Tree}
 use Rattle.bson_raw.specs.declared.document.RawDocument.{RawDocument}
-use Rattle.bson_raw.specs.{DocumentSplit, IsSpelled, document_bytes, documents_bytes}
+use Rattle.bson_raw.specs.{DocumentSplit, IsSpelled, document_bytes}
 use Rattle.bson_raw.proofs.Lemmas.{document_takes}
 use Rattle.wire_msg.specs.{IsMessage, number_at}
 use Rattle.wire_msg.proofs.Lemmas.{msg_read}
@@ -40,8 +40,12 @@ is_err : (found : RawDocument × Bor (List ℕ)) (f : BsonFault) → IsErrOf (ok
 is_err found f e = cc
 
 -- the first document, and what is behind it
-first_parts : (bytes : List ℕ) (t : Tree) (ts : List Tree) (rest : List ℕ) → DocumentSplit bytes (t ∷ ts) rest → bytes ≡ document (elements t) ++ (documents_bytes ts ++ rest)
-first_parts bytes t ts rest s = s.parts ∙ append_assoc (document (elements t)) (documents_bytes ts) rest
+first_parts : (bytes : List ℕ) (t : Tree) (ts : List Tree) (rest : List ℕ) (s : DocumentSplit bytes (t ∷ ts) rest) → bytes ≡ s.spelled.0 ++ (s.spelled.1 ++ rest)
+first_parts bytes t ts rest s = s.parts ∙ ap (λ (x : List ℕ). x ++ rest) s.spelled.4 ∙ append_assoc s.spelled.0 s.spelled.1 rest
+
+-- or there is none
+no_first : (bytes rest : List ℕ) → DocumentSplit bytes [] rest → bytes ≡ rest
+no_first bytes rest s = s.parts ∙ ap (λ (x : List ℕ). x ++ rest) s.spelled
 
 -- a document begins the bytes, so they are no rest
 not_none : (bytes rest : List ℕ) (t : Tree) (b after : List ℕ) → Spells t b → bytes ≡ b ++ after → ((f : BsonFault) → FrontFault bytes f → ⊥) → bytes ≡ rest → (rest ≡ []) ⊎ ((f : BsonFault) × FrontFault rest f) → ⊥
@@ -56,23 +60,23 @@ pub first_of : (bytes : List ℕ) (ts : List Tree) (rest : List ℕ) (found : Ra
     → ((f : BsonFault) → FrontFault bytes f → IsErrOf (ok found) f)
     → DocumentSplit bytes ts rest → First ts rest (document_bytes found.0) found.1.now
 first_of bytes [] rest found is only fault split =
-    absurd (not_none bytes rest is.1.0 (document_bytes found.0) found.1.now is.1.1 is.0 (λ f x. is_err found f (fault f x)) split.parts split.ends)
+    absurd (not_none bytes rest is.1.0 (document_bytes found.0) found.1.now is.1.1 is.0 (λ f x. is_err found f (fault f x)) (no_first bytes rest split) split.ends)
 first_of bytes (u ∷ others) rest found is only fault split =
-    let behind : List ℕ = documents_bytes others ++ rest in
-    let one = only u (document (elements u)) behind split.documents_fit.0 (first_parts bytes u others rest split) in
-    let left : DocumentSplit behind others rest = record { parts = refl; documents_fit = split.documents_fit.1; ends = split.ends } in
+    let behind : List ℕ = split.spelled.1 ++ rest in
+    let one = only u split.spelled.0 behind split.spelled.2 (first_parts bytes u others rest split) in
+    let left : DocumentSplit behind others rest = record { joined = split.spelled.1; spelled = split.spelled.3; parts = refl; ends = split.ends } in
     record {
       tree = u;
       others = others;
       is_first = refl;
-      spelled = subst (λ (x : List ℕ). Spells u x) (sym one.0) split.documents_fit.0;
+      spelled = subst (Spells u) (sym one.0) split.spelled.2;
       left = subst (λ (x : List ℕ). DocumentSplit x others rest) (sym one.1) left;
     }
 
 -- no document stands there, so the split has none
 pub none_of : (bytes : List ℕ) (ts : List Tree) (rest : List ℕ) → BeginsWithNone bytes → DocumentSplit bytes ts rest → ts ≡ []
 none_of bytes [] rest none split = refl
-none_of bytes (t ∷ ts) rest none split = absurd (none t (document (elements t)) (documents_bytes ts ++ rest) split.documents_fit.0 (first_parts bytes t ts rest split))
+none_of bytes (t ∷ ts) rest none split = absurd (none t split.spelled.0 (split.spelled.1 ++ rest) split.spelled.2 (first_parts bytes t ts rest split))
 
 -- ---- what is behind the documents
 
@@ -85,13 +89,13 @@ pub rests_tell : (IsLike : Tree → Tree → Type 0) (All : Type 0) (xs ys : Lis
     → (All ↔ OneByOne IsLike xs ys) → BeginsWithNone a → DocumentSplit a xs rest → DocumentSplit b ys other → same ≡ bytes_eq a b
     → IsTrue same ↔ (All × (rest ≡ other))
 rests_tell IsLike All [] [] a b rest other same so_far none split splits told =
-    let bytes = told_by_bytes a b rest other same split.parts splits.parts told in ((λ yes. (so_far.1 tt, bytes.0 yes)), (λ both. bytes.1 both.1))
+    let bytes = told_by_bytes a b rest other same (no_first a rest split) (no_first b other splits) told in ((λ yes. (so_far.1 tt, bytes.0 yes)), (λ both. bytes.1 both.1))
 rests_tell IsLike All [] (u ∷ ys) a b rest other same so_far none split splits told = (
-  (λ yes. absurd (none u (document (elements u)) (documents_bytes ys ++ other) splits.documents_fit.0 ((bytes_eq-Decides a b).0 (sym told ∙ yes) ∙ first_parts b u ys other splits))),
+  (λ yes. absurd (none u splits.spelled.0 (splits.spelled.1 ++ other) splits.spelled.2 ((bytes_eq-Decides a b).0 (sym told ∙ yes) ∙ first_parts b u ys other splits))),
   (λ both. absurd (so_far.0 both.0)),
 )
 rests_tell IsLike All (t ∷ xs) ys a b rest other same so_far none split splits told =
-    absurd (none t (document (elements t)) (documents_bytes xs ++ rest) split.documents_fit.0 (first_parts a t xs rest split))
+    absurd (none t split.spelled.0 (split.spelled.1 ++ rest) split.spelled.2 (first_parts a t xs rest split))
 
 -- ---- what an answer is read as
 
