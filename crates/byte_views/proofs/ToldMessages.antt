@@ -81,7 +81,7 @@ told limit bytes rest ms d n ending c t i ends is =
         joined = i.joined;
         spelled = i.spelled;
         parts = i.parts;
-        none_begins = none_begins limit n rest ending (IsBytes-after i.joined rest (subst IsBytes i.parts t.0)) ends;
+        ends = none_begins limit n rest ending (IsBytes-after i.joined rest (subst IsBytes i.parts t.0)) ends;
       },
       ending,
       subst (λ (x : ℕ). EndsAs limit x rest ending) size ends,

@@ -463,7 +463,7 @@ module _ (limit c : ℕ) where
                 (no_cause limit p.rest h.cause k.state takes.may.1 p.closes) r.last;
             past = r.past;
             joined = b ++ r.joined;
-            spelled = (b, r.joined, spells, within, r.spelled, refl);
+            spelled = (b, r.joined, (spells, within), r.spelled, refl);
             parts =
                 sym (append_assoc p.rest bytes (bytes_taken acts))
                 ∙ ap (λ z. z ++ bytes_taken acts) (sym b_is)

@@ -69,7 +69,7 @@ left_not_whole limit held after m (inr b) w = bad_is_not_whole limit held after 
 
 module _ {H : Type 0} (limit c : ℕ) (k : Conn) (m : Machine H) (waiting : List Tag) (taken given : List ℕ) (r : RawFits limit c k m waiting taken given) where
   pub raw_split : Split limit taken r.messages k.server.held
-  raw_split = record { joined = r.bytes; spelled = r.spelled; parts = r.joined; none_begins = λ n after w. left_not_whole limit k.server.held after n r.left w }
+  raw_split = record { joined = r.bytes; spelled = r.spelled; parts = r.joined; ends = λ n after w. left_not_whole limit k.server.held after n r.left w }
 
   pub raw_apart : ((i : ℕ) (x : Call) → slice_get (calls_of c m.calls) i ≡ Some x → x.state ≡ Foreign) → GivesOwn limit c taken (given ++ k.server.output) k.server.state m.calls m.log
   raw_apart foreign = record {

@@ -21,7 +21,7 @@ use Rattle.wire_msg.specs.Spelling.{body_section, sequence_section, sequences_by
 use Rattle.wire_msg.specs.Payload.{AreParts, IsPayload}
 use Rattle.wire_msg.specs.Known.{last_offset, IsLastOffset}
 use Rattle.wire_msg.specs.Buf.{empty_sequence, with_sequence, IsFree, longer, with_last_document, with_document}
-use Rattle.wire_msg.proofs.DocumentLaws.{documents-append, AreDocuments-append, is_document}
+use Rattle.bson_raw.proofs.Lemmas.{AreDocuments-append, documents_bytes-append, is_document}
 use Rattle.wire_msg.proofs.SequenceLaws.{sequences-append, AreSequences-append}
 use Rattle.wire_msg.proofs.SectionLaws.{length-body}
 use Rattle.wire_msg.proofs.ReadLaws.{length-sequence}
@@ -130,7 +130,7 @@ with_sequence_offset b s c name p = ap length (only_behind b s c p) ∙ sym (off
 -- ---- a document more
 
 documents_more : (q : Sequence) (t : Tree) (d : List ℕ) → Spells t d → documents_bytes (longer q t).documents ≡ documents_bytes q.documents ++ d
-documents_more q t d s = documents-append q.documents (t ∷ []) ∙ ap (λ (x : List ℕ). documents_bytes q.documents ++ x) (append-nil (document (elements t)) ∙ sym s.parts)
+documents_more q t d s = documents_bytes-append q.documents (t ∷ []) ∙ ap (λ (x : List ℕ). documents_bytes q.documents ++ x) (append-nil (document (elements t)) ∙ sym s.parts)
 
 size_more : (q : Sequence) (t : Tree) (d : List ℕ) → Spells t d → sequence_size (longer q t) ≡ sequence_size q + length d
 size_more q t d s = omega (arith, ap length (documents_more q t d s), length-append (documents_bytes q.documents) d)

@@ -8,7 +8,7 @@ use Rattle.wire_msg.specs.Messages.{Content}
 use Rattle.wire_msg.specs.Spelling.{body_section, sequences_bytes, message_len}
 use Rattle.wire_msg.specs.Payload.{AreParts, IsPayload}
 use Rattle.wire_msg.specs.Buf.{body_alone}
-use Rattle.wire_msg.proofs.DocumentLaws.{is_document}
+use Rattle.bson_raw.proofs.Lemmas.{is_document}
 use Rattle.wire_msg.proofs.SequenceLaws.{sequences-append}
 use Rattle.wire_msg.proofs.SectionLaws.{length-body}
 

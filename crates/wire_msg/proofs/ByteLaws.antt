@@ -194,4 +194,4 @@ msg_are_bytes m bytes s =
 -- the bytes of messages joined are bytes
 pub joined_are_bytes : (limit : ℕ) (messages : List Message) (bytes : List ℕ) → AreSpelled limit messages bytes → IsBytes bytes
 joined_are_bytes limit [] bytes a = subst IsBytes (sym a) none
-joined_are_bytes limit (m ∷ ms) bytes a = subst IsBytes (sym a.5) (bytes_append a.0 a.1 (msg_are_bytes m a.0 a.2) (joined_are_bytes limit ms a.1 a.4))
+joined_are_bytes limit (m ∷ ms) bytes a = subst IsBytes (sym a.4) (bytes_append a.0 a.1 (msg_are_bytes m a.0 a.2.0) (joined_are_bytes limit ms a.1 a.3))

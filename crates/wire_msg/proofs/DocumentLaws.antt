@@ -8,21 +8,11 @@ use Rattle.bson_elem.specs.Faults.{FrontFault}
 use Rattle.bson_raw.specs.Spelled.{IsSpelled}
 use Rattle.wire_msg.specs.declared.fault.MsgCause.TheVariants.{Document}
 use Rattle.wire_msg.specs.Causes.{msg_fault}
-use Rattle.bson_raw.specs.Split.{IsDocument, AreDocuments, documents_bytes}
+use Rattle.bson_raw.specs.Split.{AreDocuments, documents_bytes}
+use Rattle.bson_raw.proofs.Lemmas.{AreDocuments-append, documents_bytes-append, is_document}
 use Rattle.wire_msg.specs.Faults.{DocumentsFault}
 
 -- ---- one document more
-
-pub documents-append : (ts us : List Tree) → documents_bytes (ts ++ us) ≡ documents_bytes ts ++ documents_bytes us
-documents-append [] us = refl
-documents-append (t ∷ ts) us = ap (λ (x : List ℕ). document (elements t) ++ x) (documents-append ts us) ∙ sym (append_assoc (document (elements t)) (documents_bytes ts) (documents_bytes us))
-
-pub AreDocuments-append : (ts us : List Tree) → AreDocuments ts → AreDocuments us → AreDocuments (ts ++ us)
-AreDocuments-append [] us f g = g
-AreDocuments-append (t ∷ ts) us f g = (f.0, AreDocuments-append ts us f.1 g)
-
-pub is_document : (t : Tree) (bytes : List ℕ) → Spells t bytes → IsDocument t
-is_document t bytes s = subst (Spells t) s.parts s
 
 -- documents stand before a rest
 pub record DocumentsBefore (bytes rest : List ℕ) : Type 0 where
@@ -35,7 +25,7 @@ one_more bytes rest d after b s is =
     let t : Tree = s.0 in
     let whole : d ≡ document (elements t) = s.1.parts in
     let single : documents_bytes (t ∷ []) ≡ document (elements t) = append-nil (document (elements t)) in
-    let more : documents_bytes (b.documents ++ t ∷ []) ≡ documents_bytes b.documents ++ d = documents-append b.documents (t ∷ []) ∙ ap (λ (x : List ℕ). documents_bytes b.documents ++ x) (single ∙ sym whole) in
+    let more : documents_bytes (b.documents ++ t ∷ []) ≡ documents_bytes b.documents ++ d = documents_bytes-append b.documents (t ∷ []) ∙ ap (λ (x : List ℕ). documents_bytes b.documents ++ x) (single ∙ sym whole) in
     record {
       documents = b.documents ++ t ∷ [];
       fits = AreDocuments-append b.documents (t ∷ []) b.fits (is_document t d s.1, tt);

@@ -14,7 +14,7 @@ pub use Rattle.wire_msg.proofs.FaultOffsets.{header_offset, fault_offset}
 pub use Rattle.wire_msg.proofs.StandingLaws.{header_front, one_message, one_front, no_other, open_not_whole, open_not_bad, bad_not_whole, bad_once, bad_early, no_message, least_length, WholeRead, whole_read, bad_longer, open_shorter, open_inside}
 pub use Rattle.wire_msg.proofs.FrontLaws.{IsBytes-front, open_or_bad, stands}
 -- messages and a rest
-pub use Rattle.wire_msg.proofs.SplitLaws.{one_split, spelled-append, spelled_alone, open_ends, bad_ends, whole_first, messages_first, goes_on, bad_goes_on, Cut, no_cut, cut_more, cut_smaller, cut_ends}
+pub use Rattle.wire_msg.proofs.SplitLaws.{one_split, only_split, spelled-append, spelled_alone, open_ends, bad_ends, whole_first, messages_first, goes_on, bad_goes_on, Cut, no_cut, cut_more, cut_smaller, cut_ends}
 -- contents
 pub use Rattle.wire_msg.proofs.WriteLaws.{length-canonical, canonical_spelled}
 pub use Rattle.wire_msg.proofs.ContentLaws.{length-spelled, one_content}

@@ -12,7 +12,7 @@ use Rattle.wire_msg.specs.Messages.{Content, Message, IsContent}
 use Rattle.wire_msg.specs.Spelling.{body_section, sequences_bytes, sections_bytes, FlagsAre, SpellsMsg, IsMessage}
 use Rattle.wire_msg.specs.Faults.{names_fault, flags_fault, of_names, IsFramedMsg, PartsFault, of_sections}
 use Rattle.wire_msg.specs.Checks.{HasSequences, HasSections, HasParts}
-use Rattle.wire_msg.proofs.DocumentLaws.{is_document}
+use Rattle.bson_raw.proofs.Lemmas.{is_document}
 use Rattle.wire_msg.proofs.SequenceLaws.{AreSequences-append}
 use Rattle.wire_msg.proofs.SectionLaws.{length-body}
 use Rattle.wire_msg.proofs.NameLaws.{no_names_fault}

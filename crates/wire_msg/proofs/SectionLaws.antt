@@ -13,7 +13,7 @@ use Rattle.wire_msg.specs.Messages.{Sequence, AreSequences}
 use Rattle.wire_msg.specs.Spelling.{body_section, sequences_bytes, sections_bytes}
 use Rattle.wire_msg.specs.Faults.{Seen, no_body_yet, body_seen, AreSeen, SectionFault, two_bodies, of_body, of_sequence, of_kind, SectionsFault, at_section, without_body}
 use Rattle.wire_msg.specs.Checks.{IsNoSequence, IsRun, IsBadRun, HasSections}
-use Rattle.wire_msg.proofs.DocumentLaws.{is_document}
+use Rattle.bson_raw.proofs.Lemmas.{is_document}
 
 pub length-body : (t : Tree) → length (body_section t) ≡ 1 + length (document (elements t))
 unfolding body_section

@@ -29,6 +29,6 @@ pub use Rattle.wire_msg.specs.Header.{HeaderFault, IsGoodHeader, header_of, numb
 pub use Rattle.wire_msg.specs.Messages.{Content, IsContent, Message, Sequence}
 pub use Rattle.wire_msg.specs.RawMsg.{msg_bytes}
 pub use Rattle.wire_msg.specs.Spelling.{IsMessage, IsSpelledMsg, SpellsMsg, canonical, message_len}
-pub use Rattle.wire_msg.specs.Splits.{AreSpelled, Split}
+pub use Rattle.wire_msg.specs.Splits.{AreSpelled, BeginsNone, SpellsWithin, Split}
 pub use Rattle.wire_msg.specs.Standing.{IsBad, IsOpen, IsWhole}
 pub use Rattle.wire_msg.specs.Writing.{IsWriteRefusal}

@@ -1,21 +1,24 @@
 -- The messages that bytes hold one after another, and the rest after them.
-use Rattle.std.specs.Prelude.{◌≡◌, ℕ, ◌≤◌, List, [], ◌∷◌, ◌++◌, length}
+use Rattle.std.specs.Prelude.{ℕ, ◌≤◌, List, length}
+use Rattle.framing.specs.{BackToBack, SplitsInto}
 use Rattle.wire_msg.specs.Messages.{Message}
 use Rattle.wire_msg.specs.Spelling.{SpellsMsg}
 use Rattle.wire_msg.specs.Standing.{IsWhole}
 
+-- the bytes spell the message, and are within the limit
+abbrev pub SpellsWithin : ℕ → Message → List ℕ → Type 0
+SpellsWithin limit m bytes = SpellsMsg m bytes × (length bytes ≤ limit)
+
+-- no message within the limit is at the front of the bytes
+abbrev pub BeginsNone : ℕ → List ℕ → Type 0
+BeginsNone limit bytes = (m : Message) (after : List ℕ) → IsWhole limit bytes m after → ⊥
+
 -- the bytes are spellings of the messages, each within the limit, one after another
 abbrev pub AreSpelled : ℕ → List Message → List ℕ → Type 0
-AreSpelled limit [] bytes = bytes ≡ []
-AreSpelled limit (m ∷ ms) bytes =
-    (front : List ℕ) × (rest : List ℕ) × SpellsMsg m front × (length front ≤ limit)
-    × AreSpelled limit ms rest × (bytes ≡ front ++ rest)
+AreSpelled limit messages bytes = BackToBack (SpellsWithin limit) messages bytes
 
--- The bytes are spellings of the messages, one after another, and then a rest that begins with no
--- message within the limit.
-pub record Split (limit : ℕ) (bytes : List ℕ) (messages : List Message)
-    (rest : List ℕ) : Type 0 where
-  pub joined : List ℕ
-  pub spelled : AreSpelled limit messages joined
-  pub parts : bytes ≡ joined ++ rest
-  pub none_begins : (m : Message) (after : List ℕ) → IsWhole limit rest m after → ⊥
+-- the bytes are spellings of the messages, one after another, and then a rest that begins with no
+-- message within the limit
+abbrev pub Split : ℕ → List ℕ → List Message → List ℕ → Type 0
+Split limit bytes messages rest =
+    SplitsInto (SpellsWithin limit) (BeginsNone limit) bytes messages rest

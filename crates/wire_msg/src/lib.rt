@@ -12,8 +12,8 @@
 //! Checksums aren't verified: a message with one is refused by a cause of its own. Other opcodes
 //! and compression are left out.
 //!
-//! Uses bson_raw. Used by wire_stream, wire_peer, wire_query, wire_text and byte_views. Read first:
-//! `specs/Spelling.antt`, and then `msg` and `front`.
+//! Uses bson_raw and framing. Used by wire_stream, wire_peer, wire_query, wire_text and byte_views.
+//! Read first: `specs/Spelling.antt`, and then `msg` and `front`.
 #![tactic(auto)]
 
 mod append;

@@ -4,11 +4,12 @@ use Rattle.std.proofs.Math.Seq.{take-append_seam, take-length}
 use Rattle.std.proofs.lemmas.Grind.{flat_map-append}
 use Rattle.std.proofs.lemmas.List.{drop_more, take_more}
 use Rattle.std.specs.List.{flat_map}
+use Rattle.framing.proofs.Lemmas.{each_joined, spell_each-push}
 use Rattle.wire_msg.specs.declared.fault.MsgFault.{MsgFault}
 use Rattle.wire_msg.specs.declared.header.MsgHeader.{MsgHeader}
 use Rattle.wire_msg.specs.Standing.{bad_header, bad_message}
-use Rattle.wire_msg.specs.{AreSpelled, FaultMsg, HeaderFault, IsBad, IsGoodHeader, IsMessage, IsOpen, IsSpelledMsg, IsWhole, Message, Split, SpellsMsg, header_of, number_at}
-use Rattle.wire_msg.proofs.Lemmas.{bad_longer, bad_not_whole, header_front, least_length, msg_are_bytes, one_front, open_ends, whole_read}
+use Rattle.wire_msg.specs.{FaultMsg, HeaderFault, IsBad, IsGoodHeader, IsMessage, IsOpen, IsSpelledMsg, IsWhole, Message, SpellsWithin, Split, header_of, number_at}
+use Rattle.wire_msg.proofs.Lemmas.{bad_longer, bad_not_whole, header_front, least_length, msg_are_bytes, only_split, open_ends, whole_read}
 use Rattle.wire_stream.specs.declared.reader_state.Fed.{Fed}
 use Rattle.wire_stream.specs.declared.reader_state.ReaderState.{ReaderState}
 use Rattle.wire_stream.specs.declared.reader_state.ReaderState.TheVariants.{Bad, Need, Ready}
@@ -22,19 +23,6 @@ use Rattle.wire_stream.proofs.Readings.{ready_is, tail_is}
 joined-push : (found : List (List ℕ)) (b : List ℕ) → joined (found ++ b ∷ []) ≡ joined found ++ b
 joined-push [] b = append-nil b
 joined-push (x ∷ found) b = ap (λ (q : List ℕ). x ++ q) (joined-push found b) ∙ sym (append_assoc x (joined found) b)
-
-each-push : (limit : ℕ) (ms : List Message) (found : List (List ℕ)) (m : Message) (b : List ℕ) → SpellEach limit ms found → SpellsMsg m b → length b ≤ limit → SpellEach limit (ms ++ m ∷ []) (found ++ b ∷ [])
-each-push limit [] [] m b each s le = (s, le, tt)
-each-push limit [] (x ∷ found) m b each s le = absurd each
-each-push limit (n ∷ ms) [] m b each s le = absurd each
-each-push limit (n ∷ ms) (x ∷ found) m b each s le = (each.0, each.1, each-push limit ms found m b each.2 s le)
-
--- messages that are spelled one by one are spelled by the joined bytes
-each_spelled : (limit : ℕ) (ms : List Message) (found : List (List ℕ)) → SpellEach limit ms found → AreSpelled limit ms (joined found)
-each_spelled limit [] [] each = refl
-each_spelled limit [] (x ∷ found) each = absurd each
-each_spelled limit (m ∷ ms) [] each = absurd each
-each_spelled limit (m ∷ ms) (x ∷ found) each = (x, joined found, each.0, each.1, each_spelled limit ms found each.2, refl)
 
 -- ---- what is gathered
 
@@ -57,7 +45,7 @@ taken_on limit bytes held new piece found at n is g =
 pub moved_out : (limit : ℕ) (bytes held m new : List ℕ) (found more : List (List ℕ)) → more ≡ found ++ m ∷ [] → m ≡ held → new ≡ [] → IsMessage limit m → Gathered limit bytes found held → Gathered limit bytes more new
 moved_out limit bytes held m new found more is same none i g = record {
   messages = g.messages ++ i.1.0 ∷ [];
-  spelled = subst (SpellEach limit (g.messages ++ i.1.0 ∷ [])) (sym is) (each-push limit g.messages found i.1.0 m g.spelled i.1.1 i.0);
+  spelled = subst (SpellEach limit (g.messages ++ i.1.0 ∷ [])) (sym is) (spell_each-push (SpellsWithin limit) g.messages found i.1.0 m g.spelled (i.1.1, i.0));
   parts = g.parts ∙ ap (λ (x : List ℕ). joined found ++ x) (sym same) ∙ sym (joined-push found m) ∙ ap joined (sym is) ∙ sym (append-nil (joined more)) ∙ ap (λ (x : List ℕ). joined more ++ x) (sym none);
 }
 
@@ -100,28 +88,6 @@ smaller limit held piece new m rest at fed le f same s none =
 
 -- ---- the split
 
-abbrev NoneBegins : ℕ → List ℕ → Type 0
-NoneBegins limit rest = (m : Message) (after : List ℕ) → IsWhole limit rest m after → ⊥
-
--- Bytes split in one way at most. Only the bytes of the messages have to be below 256, not those of
--- the rests.
-split_once : (limit : ℕ) (ms ns : List Message) (j k rest after : List ℕ) → AreSpelled limit ms j → AreSpelled limit ns k → j ++ rest ≡ k ++ after → NoneBegins limit rest → NoneBegins limit after → (ms ≡ ns) × (rest ≡ after)
-split_once limit [] [] j k rest after a b is none none' = (refl, ap (λ (x : List ℕ). x ++ rest) (sym a) ∙ is ∙ ap (λ (x : List ℕ). x ++ after) b)
-split_once limit [] (n ∷ ns) j k rest after a b is none none' =
-    let parts : rest ≡ b.0 ++ (b.1 ++ after) = ap (λ (x : List ℕ). x ++ rest) (sym a) ∙ is ∙ ap (λ (x : List ℕ). x ++ after) b.5 ∙ append_assoc b.0 b.1 after in
-    absurd (none n (b.1 ++ after) (record { front = b.0; parts = parts; spelled = b.2; within = b.3 }))
-split_once limit (m ∷ ms) [] j k rest after a b is none none' =
-    let parts : after ≡ a.0 ++ (a.1 ++ rest) = ap (λ (x : List ℕ). x ++ after) (sym b) ∙ sym is ∙ ap (λ (x : List ℕ). x ++ rest) a.5 ∙ append_assoc a.0 a.1 rest in
-    absurd (none' m (a.1 ++ rest) (record { front = a.0; parts = parts; spelled = a.2; within = a.3 }))
-split_once limit (m ∷ ms) (n ∷ ns) j k rest after a b is none none' =
-    let parts : a.0 ++ (a.1 ++ rest) ≡ b.0 ++ (b.1 ++ after) = sym (ap (λ (x : List ℕ). x ++ rest) a.5 ∙ append_assoc a.0 a.1 rest) ∙ is ∙ ap (λ (x : List ℕ). x ++ after) b.5 ∙ append_assoc b.0 b.1 after in
-    let same = one_front m n a.0 b.0 (a.1 ++ rest) (b.1 ++ after) (msg_are_bytes m a.0 a.2) a.2 b.2 parts in
-    let ih = split_once limit ms ns a.1 b.1 rest after a.4 b.4 same.2 none none' in
-    (ap (λ (x : Message). x ∷ ms) same.0 ∙ ap (λ (x : List Message). n ∷ x) ih.0, ih.1)
-
-only_split : (limit : ℕ) (bytes : List ℕ) (messages others : List Message) (rest after : List ℕ) → Split limit bytes messages rest → Split limit bytes others after → (messages ≡ others) × (rest ≡ after)
-only_split limit bytes messages others rest after s t = split_once limit messages others s.joined t.joined rest after s.spelled t.spelled (sym s.parts ∙ t.parts) s.none_begins t.none_begins
-
 -- a message in front of bad bytes would be bad itself
 bad_shorter : (limit : ℕ) (front rest : List ℕ) (f : MsgFault) → 16 ≤ length front → number_at (front ++ rest) 0 ≡ length front → IsBad limit (front ++ rest) f → IsBad limit front f
 bad_shorter limit front rest f room size (bad_header long h) = bad_header room (subst (λ (x : MsgHeader). HeaderFault limit x f) (header_front front rest room) h)
@@ -142,7 +108,7 @@ bad_begins_none limit bytes rest m f at w =
 -- open bytes are held whole
 pub cuts_open : (limit : ℕ) (bytes held : List ℕ) (found : List (List ℕ)) → Gathered limit bytes found held → IsOpen limit held → Cuts limit bytes found held
 cuts_open limit bytes held found g o =
-    let split = subst (λ (x : List ℕ). Split limit x g.messages held) (sym g.parts) (open_ends limit g.messages (joined found) held (each_spelled limit g.messages found g.spelled) o) in
+    let split = subst (λ (x : List ℕ). Split limit x g.messages held) (sym g.parts) (open_ends limit g.messages (joined found) held (each_joined (SpellsWithin limit) g.messages found g.spelled) o) in
     record {
       messages = g.messages;
       rest = held;
@@ -159,9 +125,9 @@ cuts_bad limit bytes taken untaken held found f is g at no_more =
     let parts : bytes ≡ joined found ++ (held ++ untaken) = is ∙ ap (λ (x : List ℕ). x ++ untaken) g.parts ∙ append_assoc (joined found) held untaken in
     let split : Split limit bytes g.messages (held ++ untaken) = record {
       joined = joined found;
-      spelled = each_spelled limit g.messages found g.spelled;
+      spelled = each_joined (SpellsWithin limit) g.messages found g.spelled;
       parts = parts;
-      none_begins = λ m after w. bad_begins_none limit (held ++ untaken) after m f (bad_longer limit held untaken f at) w;
+      ends = λ m after w. bad_begins_none limit (held ++ untaken) after m f (bad_longer limit held untaken f at) w;
     } in
     record {
       messages = g.messages;
@@ -181,7 +147,7 @@ announces limit bytes held more found g long good = record {
   messages = g.messages;
   front = joined found;
   behind = held ++ more;
-  spelled = each_spelled limit g.messages found g.spelled;
+  spelled = each_joined (SpellsWithin limit) g.messages found g.spelled;
   parts = ap (λ (x : List ℕ). x ++ more) g.parts ∙ append_assoc (joined found) held more;
   long = long;
   good = good;

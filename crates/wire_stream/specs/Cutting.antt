@@ -1,20 +1,19 @@
 -- All messages of some bytes, and what a reader holds after them.
-use Rattle.std.specs.Prelude.{◌≡◌, ℕ, ◌≤◌, List, [], ◌∷◌, ◌++◌, length}
+use Rattle.std.specs.Prelude.{◌≡◌, ℕ, ◌≤◌, List, ◌++◌, length}
+use Rattle.std.specs.List.{concat}
+use Rattle.framing.specs.Splits as items
 use Rattle.wire_msg.specs.declared.fault.MsgFault.{MsgFault}
-use Rattle.wire_msg.specs.{AreSpelled, IsBad, IsGoodHeader, IsOpen, Message, SpellsMsg, Split}
+use Rattle.wire_msg.specs.{AreSpelled, IsBad, IsGoodHeader, IsOpen, Message, SpellsWithin, Split}
 use Rattle.wire_msg.specs.{header_of}
 use Rattle.wire_stream.specs.Readers.{HoldsNoMore}
 
 -- the lists of bytes, one after another
 abbrev pub joined : List (List ℕ) → List ℕ
-joined [] = []
-joined (b ∷ bs) = b ++ joined bs
+joined bytes = concat bytes
 
 -- the lists of bytes spell the messages, one each, within the limit
 abbrev pub SpellEach : ℕ → List Message → List (List ℕ) → Type 0
-SpellEach limit [] [] = Unit {0}
-SpellEach limit (m ∷ ms) (b ∷ bs) = SpellsMsg m b × (length b ≤ limit) × SpellEach limit ms bs
-SpellEach limit messages found = ⊥
+SpellEach limit messages found = items.SpellEach (SpellsWithin limit) messages found
 
 -- What a reader holds of a rest: all of it if it is open; otherwise the 16 bytes of a bad header,
 -- or the bytes that a good header announces.

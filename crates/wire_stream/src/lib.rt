@@ -5,8 +5,8 @@
 //! `flush` sends what an `Outlet`, such as an `OutBuf`, has waiting. Nothing here looks into a
 //! message beyond its length, except by calls of wire_msg.
 //!
-//! Stands on wire_msg. Whatever has a connection stands on it: wire_peer, wire_serve, sockets,
-//! wire_end and the programs. Read first: `reader`, and then `link`.
+//! Stands on wire_msg and framing. Whatever has a connection stands on it: wire_peer, wire_serve,
+//! sockets, wire_end and the programs. Read first: `reader`, and then `link`.
 #![tactic(auto)]
 
 mod held;
