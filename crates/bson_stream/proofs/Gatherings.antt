@@ -7,13 +7,14 @@ use Rattle.std.specs.List.{flat_map}
 use Rattle.bson_elem.specs.declared.fault.BsonCause.TheVariants.{Truncated}
 use Rattle.bson_elem.specs.declared.fault.BsonFault.{BsonFault}
 use Rattle.bson_elem.specs.{Spells, Tree, document, elements, fault}
+use Rattle.framing.proofs.Lemmas.{spell_each-push}
 use Rattle.bson_raw.specs.{DocumentSplit, IsSpelled, documents_bytes}
 use Rattle.bson_raw.proofs.Lemmas.{Walked, documents_bytes-append, one_more, walked_all, walked_to_fault}
 use Rattle.bson_stream.specs.declared.reader_state.Fed.{Fed}
 use Rattle.bson_stream.specs.declared.reader_state.ReadRefusal.{ReadRefusal}
 use Rattle.bson_stream.specs.declared.reader_state.ReadRefusal.TheVariants.{OutOfMemory, TooFar, TooLong}
 use Rattle.bson_stream.specs.declared.reader_state.ReaderState.TheVariants.{Need, Bad}
-use Rattle.bson_stream.specs.Cutting.{Cuts, IsUnread, SpellEach}
+use Rattle.bson_stream.specs.Cutting.{Cuts, IsUnread, SpellEach, SpellsWithin}
 use Rattle.bson_stream.specs.Gathering.{Gathered, Gathers, HasRead}
 use Rattle.bson_stream.specs.Readers.{AnnouncesMore, Feeds, HoldsNoMore, IsInFront, IsRefused, Reading, StandsAt}
 use Rattle.bson_stream.specs.Standing.{IsBad, IsLength, IsOpen, in_stream}
@@ -77,14 +78,6 @@ ends_bad bytes taken more ts r f is h bad =
     let w : Walked bytes ts (r.held ++ more) = record { parts = is ∙ ap (λ (x : List ℕ). x ++ more) h.parts ∙ append_assoc (documents_bytes ts) r.held more; documents_fit = h.fit } in
     walked_to_fault bytes ts (r.held ++ more) bad.own w (fault_longer r.held more bad.own bad.decided bad.first)
 
--- ---- what was found
-
-each-push : (limit : ℕ) (ts : List Tree) (found : List (List ℕ)) (t : Tree) (b : List ℕ) → SpellEach limit ts found → Spells t b → length b ≤ limit → SpellEach limit (ts ++ t ∷ []) (found ++ b ∷ [])
-each-push limit [] [] t b each s le = (s, le, tt)
-each-push limit [] (x ∷ found) t b each s le = absurd each
-each-push limit (u ∷ ts) [] t b each s le = absurd each
-each-push limit (u ∷ ts) (x ∷ found) t b each s le = (each.0, each.1, each-push limit ts found t b each.2 s le)
-
 -- ---- good lengths above the limit
 
 none_announces : (limit : ℕ) (held : List ℕ) → held ≡ [] → AnnouncesMore limit held → ⊥
@@ -145,7 +138,7 @@ moved_out bytes found more old new b g is same s most behind =
     let limit : new.limit ≡ old.limit = ap (λ (r : Reading). r.limit) behind in
     let none : new.held ≡ [] = ap (λ (r : Reading). r.held) behind in
     let le : length b ≤ old.limit = omega (arith, ap length same, spelled_within old.limit old.held s most) in
-    let each : SpellEach old.limit (g.0 ++ s.0 ∷ []) more = subst (SpellEach old.limit (g.0 ++ s.0 ∷ [])) (sym is) (each-push old.limit g.0 found s.0 b g.2 (subst (Spells s.0) (sym same) s.1) le) in (
+    let each : SpellEach old.limit (g.0 ++ s.0 ∷ []) more = subst (SpellEach old.limit (g.0 ++ s.0 ∷ [])) (sym is) (spell_each-push (SpellsWithin old.limit) g.0 found s.0 b g.2 (subst (Spells s.0) (sym same) s.1, le)) in (
       g.0 ++ s.0 ∷ [],
       let_go bytes g.0 s.0 old new g.1 s.1 (ap (λ (r : Reading). r.start) behind) none,
       subst (λ (k : ℕ). SpellEach k (g.0 ++ s.0 ∷ []) more) (sym limit) each,

@@ -1,7 +1,8 @@
 -- All documents of a stream, and its fault.
-use Rattle.std.specs.Prelude.{◌≡◌, ℕ, ◌^◌, ◌≤◌, List, [], ◌∷◌, ◌++◌, length, Option, None, Some}
+use Rattle.std.specs.Prelude.{◌≡◌, ℕ, ◌^◌, ◌≤◌, List, [], ◌++◌, length, Option, None, Some}
 use Rattle.bson_elem.specs.declared.fault.BsonFault.{BsonFault}
 use Rattle.bson_elem.specs.{FrontFault, Spells, Tree}
+use Rattle.framing.specs.Splits as items
 use Rattle.bson_raw.specs.{AreDocuments, DocumentSplit, documents_bytes}
 use Rattle.bson_stream.specs.declared.reader_state.ReadRefusal.{ReadRefusal}
 use Rattle.bson_stream.specs.declared.reader_state.ReadRefusal.TheVariants.{OutOfMemory}
@@ -9,11 +10,13 @@ use Rattle.bson_stream.specs.declared.reader_state.ReadRefusal.TheVariants.{TooF
 use Rattle.bson_stream.specs.Readers.{AnnouncesMore}
 use Rattle.bson_stream.specs.Standing.{in_stream}
 
+-- the bytes spell the tree, and are within the limit
+abbrev pub SpellsWithin : ℕ → Tree → List ℕ → Type 0
+SpellsWithin limit t bytes = Spells t bytes × (length bytes ≤ limit)
+
 -- the lists of bytes spell the trees, one each, within the limit
 abbrev pub SpellEach : ℕ → List Tree → List (List ℕ) → Type 0
-SpellEach limit [] [] = Unit {0}
-SpellEach limit (t ∷ ts) (b ∷ bs) = Spells t b × (length b ≤ limit) × SpellEach limit ts bs
-SpellEach limit trees found = ⊥
+SpellEach limit trees found = items.SpellEach (SpellsWithin limit) trees found
 
 -- The fault of a rest that begins at this offset, if it has one.
 abbrev pub IsFaultOf : ℕ → List ℕ → Option BsonFault → Type 0

@@ -11,7 +11,8 @@
 //! and the gaps of one definition (`specs/Salvage.antt`), however the bytes are cut
 //! (`salvage_pieces`).
 //!
-//! Stands on bson_raw. engines stands on it. Read first: `reader`, and then `specs/Readers.antt`.
+//! Stands on bson_raw and framing. file_commands stands on it. Read first: `reader`, and then
+//! `specs/Readers.antt`.
 #![tactic(auto)]
 
 mod document_buf;
