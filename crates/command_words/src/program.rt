@@ -23,7 +23,7 @@ pub const IN_OUT: u8 = 3;
 pub const MEMORY: u8 = 4;
 
 /// A program, by the name that begins its lines on standard error.
-#[derive(Clone, Copy, Debug)]
+#[derive(Clone, Copy)]
 pub struct Program<'a> {
     /// The name.
     pub name: &'a str,
@@ -118,9 +118,9 @@ pub fn status_of_error(error: &io::Error) -> u8
 pub fn texts<'a>(alloc: Global, words: &'a [String]) -> Result<Vec<&'a str>, AllocError>
     ensures { IfOk result (λ texts. map (λ t. t.now) texts.items ≡ map string_bytes words.now) }
 {
-    let mut texts = Vec::new(alloc);
+    let mut texts = Vec::with_capacity(alloc, words.len())?;
     for word in words {
-        texts.push(word.as_str())?;
+        texts.push_reserved(word.as_str());
     }
     Ok(texts)
 }
