@@ -2,6 +2,7 @@
 
 ghost use Rattle.std.specs.Prelude.{◌≡◌, ◌≤◌, [], IfErr, IfOk, OnOk};
 ghost use Rattle.bson_raw.specs.{IsSpelled};
+ghost use Rattle.wire_msg.specs.declared.header.TheConstants.{MAX_MESSAGE_LEN};
 ghost use Rattle.wire_msg.specs.{IsMessage, Message, SpellsMsg};
 ghost use Rattle.wire_msg.specs.Payload.{AreParts};
 ghost use Rattle.byte_views.specs.Contents.{IsContentRefusal, IsLengthWithin, content_len};
@@ -49,7 +50,7 @@ fn join_sections(
 
 /// Returns the length of a message with these sections, or `None` if it is greater than `limit`.
 fn len_within(body: &[u8], sequences: &[u8], limit: u32) -> Option<u32>
-    requires { limit ≤ 48_000_000 }
+    requires { limit ≤ MAX_MESSAGE_LEN }
     ensures { IsLengthWithin limit (content_len body.now sequences.now) result }
 {
     let most = limit as usize;
@@ -70,7 +71,7 @@ fn spell_sections(
     sequences: &[u8],
     limit: u32,
 ) -> Result<Vec<u8>, ContentRefusal>
-    requires { limit ≤ 48_000_000 }
+    requires { limit ≤ MAX_MESSAGE_LEN }
     ensures body { OnOk result (IsSpelled body.now) }
     ensures joined { IfOk result (λ message.
         message.items ≡ plain_message body.now sequences.now) }
@@ -106,7 +107,7 @@ pub fn spell_content(
     sequences: &[u8],
     limit: u32,
 ) -> Result<Vec<u8>, ContentRefusal>
-    requires { limit ≤ 48_000_000 }
+    requires { limit ≤ MAX_MESSAGE_LEN }
     ensures joined { IfOk result (λ message.
         message.items ≡ plain_message body.now sequences.now) }
     ensures spelled { IfOk result (λ message. IsMessage limit message.items) }

@@ -39,8 +39,8 @@ fn bytes_wanted(bytes: &[u8]) -> usize
 /// Tells whether a message of at most `limit` bytes stands in front of `bytes`. Reads it
 /// by `reading`.
 pub fn message_front<R: Reading>(reading: R, bytes: &[u8], limit: u32) -> MessageFront
-    ensures read { limit ≤ 48_000_000 → IsMessageFront limit bytes.now result }
-    ensures large_limit { 48_000_000 < limit → result ≡ limit_front }
+    ensures read { limit ≤ MAX_MESSAGE_LEN → IsMessageFront limit bytes.now result }
+    ensures large_limit { MAX_MESSAGE_LEN < limit → result ≡ limit_front }
 {
     let none = FirstFault::none();
     if limit > MAX_MESSAGE_LEN {

@@ -23,8 +23,8 @@ pub struct MessageCheck {
 /// Checks that `bytes` are exactly one message, of at most `limit` bytes. Reads it by
 /// `reading`.
 pub fn check_message<R: Reading>(reading: R, bytes: &[u8], limit: u32) -> MessageCheck
-    ensures read { limit ≤ 48_000_000 → IsMessageCheck limit bytes.now result }
-    ensures large_limit { 48_000_000 < limit → result ≡ limit_message_check }
+    ensures read { limit ≤ MAX_MESSAGE_LEN → IsMessageCheck limit bytes.now result }
+    ensures large_limit { MAX_MESSAGE_LEN < limit → result ≡ limit_message_check }
 {
     let none = FirstFault::none();
     if limit > MAX_MESSAGE_LEN {
@@ -65,8 +65,8 @@ pub struct MessagesCheck {
 /// Checks the messages that `bytes` hold one after another, each of at most `limit` bytes. Reads
 /// each by `reading`.
 pub fn check_messages<R: Reading>(reading: R, bytes: &[u8], limit: u32) -> MessagesCheck
-    ensures read { limit ≤ 48_000_000 → IsMessagesCheck limit bytes.now result }
-    ensures large_limit { 48_000_000 < limit → result ≡ limit_messages_check }
+    ensures read { limit ≤ MAX_MESSAGE_LEN → IsMessagesCheck limit bytes.now result }
+    ensures large_limit { MAX_MESSAGE_LEN < limit → result ≡ limit_messages_check }
 {
     let none = FirstFault::none();
     if limit > MAX_MESSAGE_LEN {

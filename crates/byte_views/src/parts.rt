@@ -67,8 +67,8 @@ fn flag_bits(bytes: &[u8]) -> u32
 /// Checks that `bytes` are exactly one message, of at most `limit` bytes, and returns its numbers.
 /// Reads it by `reading`.
 pub fn message_parts<R: Reading>(reading: R, bytes: &[u8], limit: u32) -> MessageParts
-    ensures read { limit ≤ 48_000_000 → IsMessageParts limit bytes.now result }
-    ensures large_limit { 48_000_000 < limit → result ≡ limit_parts }
+    ensures read { limit ≤ MAX_MESSAGE_LEN → IsMessageParts limit bytes.now result }
+    ensures large_limit { MAX_MESSAGE_LEN < limit → result ≡ limit_parts }
     ensures sections { result.fault.number ≡ 0 → (m : Message) (s : SpellsMsg m bytes.now)
         → SectionsFrom bytes.now result.sections (body_seen s.before m.content.body s.after) }
 {

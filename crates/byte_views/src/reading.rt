@@ -1,6 +1,7 @@
 //! Reads messages with memory for the names of a body, or without.
 
 ghost use Rattle.std.specs.Prelude.{◌≡◌, ◌≤◌, IfErr, IfOk, length};
+ghost use Rattle.wire_msg.specs.declared.header.TheConstants.{MAX_MESSAGE_LEN};
 ghost use Rattle.wire_msg.specs.{FaultMsg, IsMessage, IsOpen, msg_bytes};
 ghost use Rattle.wire_msg.specs.Front.{IsFront};
 
@@ -16,14 +17,14 @@ pub trait Reading: Copy {
     ///
     /// Returns the first fault.
     fn parse(self, bytes: &[u8], limit: u32) -> Result<RawMsg<'_>, MsgFault>
-        requires { limit ≤ 48_000_000 }
+        requires { limit ≤ MAX_MESSAGE_LEN }
         ensures found { IfOk result (λ m. (msg_bytes m ≡ bytes.now) × IsMessage limit bytes.now) }
         ensures fault { IfErr result (λ f. FaultMsg bytes.now limit f) }
         ensures inside { IfErr result (λ f. f.at ≤ length bytes.now) };
 
     /// Reads the message at the front of `bytes`, of at most `limit` bytes.
     fn front(self, bytes: &[u8], limit: u32) -> MsgFront<'_>
-        requires { limit ≤ 48_000_000 }
+        requires { limit ≤ MAX_MESSAGE_LEN }
         ensures front { IsFront limit bytes.now result };
 }
 

@@ -154,9 +154,9 @@ pub fn write_message(
     limit: u32,
     room: &mut [u8],
 ) -> MessageWritten
-    ensures written { limit ≤ 48_000_000
+    ensures written { limit ≤ MAX_MESSAGE_LEN
         → IsMessageWritten numbers.now body.now sequences.now limit room.old room.new result }
-    ensures large_limit { 48_000_000 < limit
+    ensures large_limit { MAX_MESSAGE_LEN < limit
         → (result ≡ no_message limit_fault (first_fault None)) × (room.new ≡ room.old) }
 {
     if limit > MAX_MESSAGE_LEN {

@@ -20,6 +20,7 @@ use Rattle.core_handles.specs.Making as making
 use Rattle.core_handles.specs.Making.{IsMade, IsPut}
 use Rattle.core_handles.specs.Numbers.{call_number, setup_number}
 use Rattle.core_handles.specs.Replying.{IsReplyCopied, no_memory, no_reply, none_ready}
+use Rattle.wire_msg.specs.declared.header.TheConstants.{MAX_MESSAGE_LEN}
 
 -- ---- the core of a handle
 
@@ -69,6 +70,6 @@ reply_refused k room n w told (inl x) = none_ready x.1 (told ∙ ap no_reply x.0
 reply_refused k room n w told (inr x) = no_memory x.1 (told ∙ ap no_reply x.0) refl
 
 -- a message has room for 21 bytes and its body
-pub alone_fits : (t : Tree) (d : List ℕ) → Spells t d → length d ≤ 47_999_979 → message_len (body_alone t) ≤ 48_000_000
+pub alone_fits : (t : Tree) (d : List ℕ) → Spells t d → length d ≤ 47_999_979 → message_len (body_alone t) ≤ MAX_MESSAGE_LEN
 unfolding body_section
 alone_fits t d s short = omega (arith, short, ap length s.parts, length-append (body_section t) [])

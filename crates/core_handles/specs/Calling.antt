@@ -14,6 +14,7 @@ use Rattle.byte_views.specs.Contents.{IsContentRefusal}
 use Rattle.byte_views.specs.Fault.{document_fault, first_fault, message_fault}
 use Rattle.core_handles.specs.declared.client_calls.CallMade.{CallMade}
 use Rattle.core_handles.specs.Numbers.{call_number}
+use Rattle.wire_msg.specs.declared.header.TheConstants.{MAX_MESSAGE_LEN}
 
 -- the call has this number and this id
 abbrev pub call_made : CallNo → CallMade
@@ -53,8 +54,8 @@ pub data CallsWith (k : ClientSeen) (kind : CallKind) (c : Content) (after : Cli
 pub data IsCallMade (k : ClientSeen) (kind : CallKind) (body sequences : List ℕ)
     (after : ClientSeen) : CallMade → Type 0 where
   has_content : {w : CallMade} (c : Content) → AreParts [] body sequences c
-      → message_len c ≤ 48_000_000 → CallsWith k kind c after w
+      → message_len c ≤ MAX_MESSAGE_LEN → CallsWith k kind c after w
       → IsCallMade k kind body sequences after w
   no_content : {w : CallMade} (e : ContentRefusal)
-      → IsContentRefusal 48_000_000 body sequences e → after ≡ k → w ≡ content_refused e
+      → IsContentRefusal MAX_MESSAGE_LEN body sequences e → after ≡ k → w ≡ content_refused e
       → IsCallMade k kind body sequences after w

@@ -2,6 +2,7 @@
 //! one. What reads or writes a whole message takes memory.
 
 ghost use Rattle.std.specs.Prelude.{◌≡◌, ◌≤◌, ◌<◌, None};
+ghost use Rattle.wire_msg.specs.declared.header.TheConstants.{MAX_MESSAGE_LEN};
 ghost use Rattle.wire_msg.specs.{Message, SpellsMsg};
 ghost use Rattle.wire_msg.specs.Faults.{Seen, body_seen};
 ghost use Rattle.byte_views.specs.Fault.{first_fault, limit_fault};
@@ -25,8 +26,8 @@ pub extern "C" fn lughemra_check_message_nonnull(
     bytes: &[u8],
     limit: u32,
 ) -> MessageCheck
-    ensures read { limit ≤ 48_000_000 → IsMessageCheck limit bytes.now result }
-    ensures large_limit { 48_000_000 < limit → result ≡ limit_message_check }
+    ensures read { limit ≤ MAX_MESSAGE_LEN → IsMessageCheck limit bytes.now result }
+    ensures large_limit { MAX_MESSAGE_LEN < limit → result ≡ limit_message_check }
 {
     byte_views::check_message(alloc, bytes, limit)
 }
@@ -38,8 +39,8 @@ pub extern "C" fn lughemra_check_messages_nonnull(
     bytes: &[u8],
     limit: u32,
 ) -> MessagesCheck
-    ensures read { limit ≤ 48_000_000 → IsMessagesCheck limit bytes.now result }
-    ensures large_limit { 48_000_000 < limit → result ≡ limit_messages_check }
+    ensures read { limit ≤ MAX_MESSAGE_LEN → IsMessagesCheck limit bytes.now result }
+    ensures large_limit { MAX_MESSAGE_LEN < limit → result ≡ limit_messages_check }
 {
     byte_views::check_messages(alloc, bytes, limit)
 }
@@ -51,8 +52,8 @@ pub extern "C" fn lughemra_message_front_nonnull(
     bytes: &[u8],
     limit: u32,
 ) -> MessageFront
-    ensures read { limit ≤ 48_000_000 → IsMessageFront limit bytes.now result }
-    ensures large_limit { 48_000_000 < limit → result ≡ limit_front }
+    ensures read { limit ≤ MAX_MESSAGE_LEN → IsMessageFront limit bytes.now result }
+    ensures large_limit { MAX_MESSAGE_LEN < limit → result ≡ limit_front }
 {
     byte_views::message_front(alloc, bytes, limit)
 }
@@ -65,8 +66,8 @@ pub extern "C" fn lughemra_message_parts_nonnull(
     bytes: &[u8],
     limit: u32,
 ) -> MessageParts
-    ensures read { limit ≤ 48_000_000 → IsMessageParts limit bytes.now result }
-    ensures large_limit { 48_000_000 < limit → result ≡ limit_parts }
+    ensures read { limit ≤ MAX_MESSAGE_LEN → IsMessageParts limit bytes.now result }
+    ensures large_limit { MAX_MESSAGE_LEN < limit → result ≡ limit_parts }
     ensures sections { result.fault.number ≡ 0 → (m : Message) (s : SpellsMsg m bytes.now)
         → SectionsFrom bytes.now result.sections (body_seen s.before m.content.body s.after) }
 {
@@ -95,9 +96,9 @@ pub extern "C" fn lughemra_write_message_nonnull(
     limit: u32,
     room: &mut [u8],
 ) -> MessageWritten
-    ensures written { limit ≤ 48_000_000
+    ensures written { limit ≤ MAX_MESSAGE_LEN
         → IsMessageWritten numbers.now body.now sequences.now limit room.old room.new result }
-    ensures large_limit { 48_000_000 < limit
+    ensures large_limit { MAX_MESSAGE_LEN < limit
         → (result ≡ no_message limit_fault (first_fault None)) × (room.new ≡ room.old) }
 {
     byte_views::write_message(alloc, numbers, body, sequences, limit, room)

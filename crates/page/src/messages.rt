@@ -1,6 +1,7 @@
 //! Exports what reads messages, one after another and by their sections, without memory.
 
 ghost use Rattle.std.specs.Prelude.{◌≡◌, ◌≤◌, ◌<◌, length};
+ghost use Rattle.wire_msg.specs.declared.header.TheConstants.{MAX_MESSAGE_LEN};
 ghost use Rattle.wire_msg.specs.{Message, SpellsMsg, header_of};
 ghost use Rattle.wire_msg.specs.Faults.{Seen, body_seen};
 ghost use Rattle.byte_views.specs.Front.{IsMessageFront, limit_front};
@@ -14,8 +15,8 @@ use byte_views::{FrontNumbers, InPlace, MessageFront, MessageParts, Section, Vie
 /// Tells whether a message stands in front of `bytes`, as `byte_views::message_front` does.
 #[unsafe(no_mangle)]
 pub extern "C" fn page_message_front(bytes: &[u8], limit: u32) -> MessageFront
-    ensures read { limit ≤ 48_000_000 → IsMessageFront limit bytes.now result }
-    ensures large_limit { 48_000_000 < limit → result ≡ limit_front }
+    ensures read { limit ≤ MAX_MESSAGE_LEN → IsMessageFront limit bytes.now result }
+    ensures large_limit { MAX_MESSAGE_LEN < limit → result ≡ limit_front }
 {
     byte_views::message_front(InPlace, bytes, limit)
 }
@@ -24,8 +25,8 @@ pub extern "C" fn page_message_front(bytes: &[u8], limit: u32) -> MessageFront
 /// `byte_views::message_parts` does.
 #[unsafe(no_mangle)]
 pub extern "C" fn page_message_parts(bytes: &[u8], limit: u32) -> MessageParts
-    ensures read { limit ≤ 48_000_000 → IsMessageParts limit bytes.now result }
-    ensures large_limit { 48_000_000 < limit → result ≡ limit_parts }
+    ensures read { limit ≤ MAX_MESSAGE_LEN → IsMessageParts limit bytes.now result }
+    ensures large_limit { MAX_MESSAGE_LEN < limit → result ≡ limit_parts }
     ensures sections { result.fault.number ≡ 0 → (m : Message) (s : SpellsMsg m bytes.now)
         → SectionsFrom bytes.now result.sections (body_seen s.before m.content.body s.after) }
 {

@@ -11,6 +11,7 @@ use Rattle.wire_frames.specs.Written.{AreEntries, Entry, entry_bytes, messages_o
 use Rattle.wire_frames.proofs.RecordLaws.{whole_parts}
 use Rattle.wire_frames.proofs.Heads.{reads_back, written_is}
 use Rattle.wire_frames.proofs.RecordLaws.{one_record_split}
+use Rattle.wire_msg.specs.declared.header.TheConstants.{MAX_MESSAGE_LEN}
 
 all_records : (limit : ℕ) (es : List Entry) → AreEntries limit es → AreRecords limit (map entry_bytes es)
 all_records limit [] are = tt
@@ -51,7 +52,7 @@ messages_back limit es records rest c d are split =
 
 -- ---- the beginning of a file
 
-pub no_message_begins_so : (more frame : List ℕ) → signature ++ more ≡ frame → IsFrame 48000000 frame → ⊥
+pub no_message_begins_so : (more frame : List ℕ) → signature ++ more ≡ frame → IsFrame MAX_MESSAGE_LEN frame → ⊥
 no_message_begins_so more frame is f =
     let n : number_at (signature ++ more) 0 ≡ 1212634444 = refl in
     omega (arith, n, ap (λ (x : List ℕ). number_at x 0) is, f.framed.announced, f.within)

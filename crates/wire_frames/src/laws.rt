@@ -2,6 +2,7 @@
 //! The contract of each function is the law.
 
 ghost use Rattle.std.specs.Prelude.{◌≡◌, ◌≤◌, ◌++◌, ◌⊎◌, ℕ, List, codes, pos};
+ghost use Rattle.wire_msg.specs.declared.header.TheConstants.{MAX_MESSAGE_LEN};
 ghost use Rattle.wire_msg.specs.{header_of, IsBad, IsMessage, msg_fault};
 ghost use Rattle.wire_msg.specs.declared.fault.MsgCause.TheVariants.{Length};
 ghost use Rattle.wire_frames.specs.declared.checksum.Checksum.{Checksum};
@@ -37,7 +38,7 @@ pub fn one_standing()
 
 /// Proves that bytes are one of these. Reads `bytes` to find out which.
 pub fn open_whole_or_bad(bytes: &[u8], limit: u32)
-    requires { limit ≤ 48_000_000 }
+    requires { limit ≤ MAX_MESSAGE_LEN }
     ensures { StandsAs limit bytes.now }
 {
     let _ = RawFrame::front(bytes, limit);
@@ -59,7 +60,7 @@ pub fn one_split()
 /// Splits `bytes` into frames of at most `limit` bytes and a rest, which is open or begins with no
 /// frame. Returns the rest.
 pub fn split_of(bytes: &[u8], limit: u32) -> &[u8]
-    requires { limit ≤ 48_000_000 }
+    requires { limit ≤ MAX_MESSAGE_LEN }
     ensures split { (frames : List (List ℕ)) × FrameSplit limit bytes.now frames result.now }
     ensures ends { ((n : ℕ) × WantsMore limit result.now n) ⊎ LacksFrame limit result.now }
 {

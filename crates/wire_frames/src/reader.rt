@@ -5,6 +5,7 @@ ghost use Rattle.std.specs.Prelude.{take, ℕ};
 ghost use Rattle.wire_frames.specs.Frames.{IsFrame, LacksFrame, WantsMore};
 ghost use Rattle.wire_frames.specs.Fronts.{IsFrontFrame};
 ghost use Rattle.wire_frames.specs.Readers.{FrameReading};
+ghost use Rattle.wire_msg.specs.declared.header.TheConstants.{MAX_MESSAGE_LEN};
 
 use crate::frame::RawFrame;
 use crate::frames::WireFrames;
@@ -29,7 +30,7 @@ impl Model for FrameReader {
 
     ghost view = { λ s. record { limit = s.reader.framing.limit; held = s.reader.held } };
 
-    ghost invariant = { λ s. s.reader.framing.limit ≤ 48_000_000 };
+    ghost invariant = { λ s. s.reader.framing.limit ≤ MAX_MESSAGE_LEN };
 }
 
 impl FrameReader {

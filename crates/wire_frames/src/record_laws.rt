@@ -4,6 +4,7 @@
 ghost use Rattle.std.specs.Prelude.{◌≡◌, ◌≤◌, ◌++◌, ◌⊎◌, ℕ, List, [], length, map};
 ghost use Rattle.std.specs.List.{concat};
 ghost use Rattle.wire_frames.specs.Frames.{IsFrame};
+ghost use Rattle.wire_msg.specs.declared.header.TheConstants.{MAX_MESSAGE_LEN};
 ghost use Rattle.wire_msg.specs.{number_at};
 ghost use Rattle.wire_frames.specs.declared.fault.RecordFault.{RecordFault};
 ghost use Rattle.wire_frames.specs.declared.head.Direction.{Direction};
@@ -41,7 +42,7 @@ pub fn one_standing()
 
 /// Proves that bytes are one of these. Reads `bytes` to find out which.
 pub fn open_whole_or_bad(bytes: &[u8], limit: u32)
-    requires { limit ≤ 48_000_000 }
+    requires { limit ≤ MAX_MESSAGE_LEN }
     ensures { StandsAs limit bytes.now }
 {
     let _ = RawRecord::front(bytes, limit);
@@ -62,7 +63,7 @@ pub fn one_split()
 
 /// Splits `bytes` into records and a rest, which is open or at fault. Returns the rest.
 pub fn split_of(bytes: &[u8], limit: u32) -> &[u8]
-    requires { limit ≤ 48_000_000 }
+    requires { limit ≤ MAX_MESSAGE_LEN }
     ensures split { (records : List (List ℕ)) × RecordSplit limit bytes.now records result.now }
     ensures ends { ((n : ℕ) × WantsMore limit result.now n)
         ⊎ ((f : RecordFault) × IsAtFault limit result.now f) }
@@ -92,5 +93,6 @@ pub fn reads_all_back()
 
 /// Proves that no message within the greatest limit begins as a file of records does.
 pub fn no_message_begins_so()
-    ensures { (more frame : List ℕ) → signature ++ more ≡ frame → IsFrame 48000000 frame → ⊥ }
+    ensures { (more frame : List ℕ) → signature ++ more ≡ frame
+        → IsFrame MAX_MESSAGE_LEN frame → ⊥ }
 {}

@@ -6,6 +6,7 @@ ghost use Rattle.wire_frames.specs.RecordFronts.{IsFrontRecord};
 ghost use Rattle.wire_frames.specs.RecordReaders.{RecordReading};
 ghost use Rattle.wire_frames.specs.Records.{IsAtFault, IsRecord, WantsMore};
 ghost use Rattle.wire_frames.specs.declared.fault.RecordFault.{RecordFault};
+ghost use Rattle.wire_msg.specs.declared.header.TheConstants.{MAX_MESSAGE_LEN};
 
 use crate::record::RawRecord;
 use crate::record_front::RecordFront;
@@ -30,7 +31,7 @@ impl Model for RecordReader {
 
     ghost view = { λ s. record { limit = s.reader.framing.limit; held = s.reader.held } };
 
-    ghost invariant = { λ s. s.reader.framing.limit ≤ 48_000_000 };
+    ghost invariant = { λ s. s.reader.framing.limit ≤ MAX_MESSAGE_LEN };
 }
 
 impl RecordReader {

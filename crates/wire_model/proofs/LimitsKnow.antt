@@ -19,6 +19,7 @@ use Rattle.wire_model.proofs.WiderActs.{EndLike}
 use Rattle.wire_model.proofs.WiderClient.{Like, like_back, like_there, open_too}
 use Rattle.wire_model.proofs.WiderServer.{as_open, widened}
 use Rattle.wire_model.proofs.WiderServes.{ServerLike, ServersLike}
+use Rattle.wire_msg.specs.declared.header.TheConstants.{MAX_MESSAGE_LEN}
 
 -- ---- records that are alike
 
@@ -176,7 +177,7 @@ module _ (H : Type 0) (does : Does H) (stops : Stops H) (wide : ℕ) (made : ℕ
                 (get-push_new (first_servers wide made k) _);
           })
 
-  begins : (k : ℕ) (first : H) → ((c : ℕ) → IsLimit (limits c)) → 48_000_000 ≤ wide
+  begins : (k : ℕ) (first : H) → ((c : ℕ) → IsLimit (limits c)) → MAX_MESSAGE_LEN ≤ wide
       → ServersLike wide (servers_with_limits limits made k first)
       (first_servers_of wide made k first)
   begins k first are most = record {
@@ -197,7 +198,7 @@ module _ (H : Type 0) (does : Does H) (stops : Stops H) (wide : ℕ) (made : ℕ
 -- ---- what is known
 
 abbrev greatest : ℕ
-greatest = 48_000_000
+greatest = MAX_MESSAGE_LEN
 
 module _ (H : Type 0) (does : Does H) (stops : Stops H) (first : H) (made : ℕ → Made)
     (good : AreMade made) (client_limit server_limit : ℕ → ℕ)

@@ -17,8 +17,9 @@ use Rattle.wire_msg.proofs.SequenceLaws.{AreSequences-append}
 use Rattle.wire_msg.proofs.SectionLaws.{length-body}
 use Rattle.wire_msg.proofs.NameLaws.{no_names_fault}
 use Rattle.wire_msg.proofs.FrameLaws.{framed_parts, number_fits}
+use Rattle.wire_msg.specs.declared.header.TheConstants.{MAX_MESSAGE_LEN}
 
-pub short_msg : (limit : ℕ) (bytes : List ℕ) → limit ≤ 48000000 → IsFramedMsg limit bytes → length bytes < 2 ^ 31
+pub short_msg : (limit : ℕ) (bytes : List ℕ) → limit ≤ MAX_MESSAGE_LEN → IsFramedMsg limit bytes → length bytes < 2 ^ 31
 short_msg limit bytes le framed = omega (arith, framed.whole, framed.good.most)
 
 pub msg_found : (limit : ℕ) (bytes : List ℕ) (flags : MsgFlags) (at next : ℕ) (d : List ℕ) → IsBytes bytes → length bytes < 2 ^ 31 → IsFramedMsg limit bytes → 20 ≤ length bytes → FlagsAre (number_at bytes 16) flags → (s : HasSections bytes at d next) → names_fault s.before s.body s.after ≡ None → IsMessage limit bytes

@@ -5,6 +5,7 @@ ghost use Rattle.wire_msg.specs.declared.fault.MsgFault.{MsgFault};
 ghost use Rattle.wire_msg.specs.Messages.{Message};
 ghost use Rattle.wire_msg.specs.Standing.{IsBad, IsOpen, IsWhole};
 ghost use Rattle.wire_msg.specs.Front.{HasWhole, IsFrame, IsFront};
+ghost use Rattle.wire_msg.specs.declared.header.TheConstants.{MAX_MESSAGE_LEN};
 
 use crate::fault::MsgFault;
 use crate::header::MsgHeader;
@@ -40,7 +41,7 @@ enum Frame<'a> {
 
 /// Reads the header at the front of `bytes`, and cuts them where it says that the message ends.
 fn read_frame(bytes: &[u8], limit: u32) -> Frame<'_>
-    requires { limit ≤ 48_000_000 }
+    requires { limit ≤ MAX_MESSAGE_LEN }
     ensures { IsFrame limit bytes.now result }
 {
     let Some((header, _)) = bytes.split_first_chunk::<16>() else {
@@ -61,7 +62,7 @@ fn read_frame(bytes: &[u8], limit: u32) -> Frame<'_>
 impl<'a> RawMsg<'a> {
     /// Reads the message at the front, as `front` does. Looks names up by `memory`.
     fn read_front<M: Memory>(memory: M, bytes: &'a [u8], limit: u32) -> MsgFront<'a>
-        requires { limit ≤ 48_000_000 }
+        requires { limit ≤ MAX_MESSAGE_LEN }
         ensures { IsFront limit bytes.now result }
     {
         match read_frame(bytes, limit) {
@@ -85,7 +86,7 @@ impl<'a> RawMsg<'a> {
     /// all announced bytes are there. They are the faults that `RawMsg::parse` returns for those
     /// bytes. This takes as much time as `RawMsg::parse`, and no memory.
     pub fn front(bytes: &'a [u8], limit: u32) -> MsgFront<'a>
-        requires { limit ≤ 48_000_000 }
+        requires { limit ≤ MAX_MESSAGE_LEN }
         ensures front { IsFront limit bytes.now result }
         ensures whole { (m : Message) (rest : List ℕ) (w : IsWhole limit bytes.now m rest)
             → HasWhole w.front rest result }
@@ -98,7 +99,7 @@ impl<'a> RawMsg<'a> {
     /// Returns what `front` does, but sorts the body's names as `RawMsg::parse_with` does, in as
     /// much time. If memory runs out, it compares them as `front` does.
     pub fn front_with(alloc: Global, bytes: &'a [u8], limit: u32) -> MsgFront<'a>
-        requires { limit ≤ 48_000_000 }
+        requires { limit ≤ MAX_MESSAGE_LEN }
         ensures front { IsFront limit bytes.now result }
         ensures whole { (m : Message) (rest : List ℕ) (w : IsWhole limit bytes.now m rest)
             → HasWhole w.front rest result }

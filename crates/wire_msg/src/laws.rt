@@ -7,6 +7,7 @@ ghost use Rattle.std.specs.Int.{w32};
 ghost use Rattle.bson_elem.specs.{IsBytes};
 ghost use Rattle.wire_msg.specs.declared.fault.MsgFault.{MsgFault};
 ghost use Rattle.wire_msg.specs.declared.header.MsgHeader.{MsgHeader};
+ghost use Rattle.wire_msg.specs.declared.header.TheConstants.{MAX_MESSAGE_LEN};
 ghost use Rattle.wire_msg.specs.declared.payloads.Payload.{Payload};
 ghost use Rattle.wire_msg.specs.declared.payload_buf.PayloadBuf.{PayloadBuf};
 ghost use Rattle.wire_msg.specs.Buf.{BufCarries};
@@ -225,7 +226,7 @@ pub fn split_stays_bad()
 
 /// Proves that bytes are open, begin with a message, or are bad. Reads `bytes` to find out which.
 pub fn open_whole_or_bad(bytes: &[u8], limit: u32)
-    requires { limit ≤ 48_000_000 }
+    requires { limit ≤ MAX_MESSAGE_LEN }
     ensures { Stands limit bytes.now }
 {
     let _ = RawMsg::front(bytes, limit);
@@ -234,7 +235,7 @@ pub fn open_whole_or_bad(bytes: &[u8], limit: u32)
 /// Splits `bytes` into messages of at most `limit` bytes and a rest, which is open or bad. Returns
 /// the rest.
 pub fn split_of(bytes: &[u8], limit: u32) -> &[u8]
-    requires { limit ≤ 48_000_000 }
+    requires { limit ≤ MAX_MESSAGE_LEN }
     ensures split { (messages : List Message) × Split limit bytes.now messages result.now }
     ensures only { (messages : List Message) (rest : List ℕ)
         → Split limit bytes.now messages rest → rest ≡ result.now }

@@ -13,6 +13,7 @@ use Rattle.wire_peer.specs.declared.server_state.ServerState.TheVariants.{Open, 
 use Rattle.wire_peer.specs.Chains.{ReplyState}
 use Rattle.wire_peer.specs.Limits.{IsWindow}
 use Rattle.wire_peer.specs.Servers.{ServerView}
+use Rattle.wire_msg.specs.declared.header.TheConstants.{MAX_MESSAGE_LEN}
 
 -- what a caller sees of these parts
 abbrev pub view_of : (connection window limit : ℕ) → Reading → VecDeque (List ℕ) Global → ReplyState
@@ -33,7 +34,7 @@ view_of connection window limit reader waiting replies state = record {
 pub record AreParts (window limit : ℕ) (reader : Reading) (waiting : VecDeque (List ℕ) Global)
     (replies : ReplyState) (state : ServerState) : Type 0 where
   pub window_is : IsWindow window
-  pub limit_is : limit ≤ 48_000_000
+  pub limit_is : limit ≤ MAX_MESSAGE_LEN
   pub read_limit : reader.limit ≡ limit
   pub reply_limit : replies.limit ≡ limit
   pub between : state ≡ Open → IsOpen limit reader.held

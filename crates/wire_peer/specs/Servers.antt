@@ -12,6 +12,7 @@ use Rattle.wire_peer.specs.declared.server_state.ServerState.TheVariants.{Open, 
 use Rattle.wire_peer.specs.declared.server_state.ServerRefusal.{ServerRefusal}
 use Rattle.wire_peer.specs.declared.server_state.ServerRefusal.TheVariants.{BadWindow, BadLimit}
 use Rattle.wire_peer.specs.declared.server_state.ServerRefusal.TheVariants.{OutOfMemory}
+use Rattle.wire_msg.specs.declared.header.TheConstants.{MAX_MESSAGE_LEN}
 
 -- What a caller sees of a server: the number of its connection, how many requests may wait and how
 -- many bytes a message may have; the bytes of a message that isn't whole yet; the bytes of each
@@ -48,7 +49,7 @@ IsNewServer connection window limit (Ok s) =
     IsWindow window × IsLimit limit × (s ≡ new_server connection window limit)
 IsNewServer connection window limit (Err BadWindow) = (window < 1) ⊎ (1024 < window)
 IsNewServer connection window limit (Err BadLimit) =
-    IsWindow window × ((limit < 26) ⊎ (48000000 < limit))
+    IsWindow window × ((limit < 26) ⊎ (MAX_MESSAGE_LEN < limit))
 IsNewServer connection window limit (Err OutOfMemory) = IsWindow window × IsLimit limit
 
 -- ---- bytes that come

@@ -138,7 +138,7 @@ impl Server {
     /// `AllocError` where memory runs out.
     fn of(alloc: Global, connection: u64, window: usize, limit: u32) -> Result<Server, AllocError>
         requires window { IsWindow window }
-        requires limit { limit ≤ 48_000_000 }
+        requires limit { limit ≤ MAX_MESSAGE_LEN }
         ensures { IfOk result (λ server. server ≡ new_server connection window limit) }
     {
         let waiting = VecDeque::with_capacity(alloc, window)?;

@@ -16,6 +16,7 @@ use Rattle.wire_query.specs.declared.fault.QueryFault.{QueryFault}
 use Rattle.wire_query.specs.Faults.{holds, CommandFault, NumbersFault, NameFault, opcode_of, IsFlagWord, FaultQuery}
 use Rattle.wire_query.specs.Checks.{HasHeader, HasCommand, HasNumbers, HasName, HasParts, ArePartsOf}
 use Rattle.wire_query.proofs.ReadLaws.{one_query}
+use Rattle.wire_msg.specs.declared.header.TheConstants.{MAX_MESSAGE_LEN}
 
 five : (a a' b b' d d' e e' f f' x : List ℕ) → a ≡ a' → b ≡ b' → d ≡ d' → e ≡ e' → f ≡ f' → a ++ (b ++ (d ++ (e ++ (f ++ x)))) ≡ (a' ++ (b' ++ (d' ++ e'))) ++ (f' ++ x)
 five a a' b b' d d' e e' f f' x p q r s t =
@@ -51,7 +52,7 @@ commanded bytes database command fits h =
     t.0.parts ∙ ap (λ (x : List ℕ). cstring (command_name database) ++ x) (numbered h.rest t.0.rest_fits h.inner.eight h.inner.none_skipped ∙ ap (λ (x : List ℕ). little 0 ++ (little (number_at h.rest 4) ++ x)) body)
 
 -- the parts spell a query
-pub has_parts : (limit : ℕ) (bytes database command : List ℕ) → limit ≤ 48000000 → IsBytes bytes → HasHeader limit bytes → 20 ≤ length bytes → IsFlagWord (number_at bytes 16) → HasName (drop 20 bytes) database command → HasParts limit bytes database command
+pub has_parts : (limit : ℕ) (bytes database command : List ℕ) → limit ≤ MAX_MESSAGE_LEN → IsBytes bytes → HasHeader limit bytes → 20 ≤ length bytes → IsFlagWord (number_at bytes 16) → HasName (drop 20 bytes) database command → HasParts limit bytes database command
 has_parts limit bytes database command least fits header room flags name =
     let q : Query = record { id = cast_signed w32 (number_at bytes 4); response_to = cast_signed w32 (number_at bytes 8); secondary_ok = flags.0; database = database; body = name.inner.inner.body } in
     let id_fits : Fits w32 (number_at bytes 4) = record { fits = number_fits bytes 4 fits } in
@@ -84,7 +85,7 @@ pub numbers_told : (at : ℕ) (bytes behind : List ℕ) (r : Result RawDocument 
 numbers_told at bytes behind (Ok d) is eight skip one m = record { eight = eight; none_skipped = skip; one = one; behind = m.0 ∙ is; inner = subst HasCommand (sym m.0) m.1 }
 numbers_told at bytes behind (Err f) is eight skip one m = holds eight (holds skip (holds one (subst (λ (x : List ℕ). CommandFault (at + 8) x f) is m)))
 
-pub parts_told : (limit : ℕ) (bytes behind : List ℕ) (r : Result (Bor (List ℕ) × RawDocument) QueryFault) → limit ≤ 48000000 → IsBytes bytes → behind ≡ drop 20 bytes → HasHeader limit bytes → 20 ≤ length bytes → IsFlagWord (number_at bytes 16)
+pub parts_told : (limit : ℕ) (bytes behind : List ℕ) (r : Result (Bor (List ℕ) × RawDocument) QueryFault) → limit ≤ MAX_MESSAGE_LEN → IsBytes bytes → behind ≡ drop 20 bytes → HasHeader limit bytes → 20 ≤ length bytes → IsFlagWord (number_at bytes 16)
     → MatchResult r (λ x. HasName behind x.0.now (document_bytes x.1)) (λ f. NameFault behind f)
     → MatchResult r (λ x. HasParts limit bytes x.0.now (document_bytes x.1)) (λ f. FaultQuery bytes limit f)
 parts_told limit bytes behind (Ok x) least fits is header room flags m = has_parts limit bytes x.0.now (document_bytes x.1) least fits header room flags (subst (λ (y : List ℕ). HasName y x.0.now (document_bytes x.1)) is m)

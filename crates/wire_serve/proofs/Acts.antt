@@ -17,11 +17,12 @@ use Rattle.wire_serve.proofs.Fed.{takes, takes_keep}
 use Rattle.wire_serve.proofs.Given.{gives, goes, keeps_out, left}
 use Rattle.wire_serve.proofs.Made.{Adds, adds_none, adds_then, answer_adds}
 use Rattle.wire_serve.proofs.Told.{among_all, answer_behind, contents_behind}
+use Rattle.wire_msg.specs.declared.header.TheConstants.{MAX_MESSAGE_LEN}
 
 -- Server connection c: these bytes came and went at it, and these were fed to its server and given by it.
 pub record Fits (c : ℕ) (came went fed given : List ℕ) (f : ConnView) : Type 0 where
   pub number : f.server.connection ≡ c
-  pub limit : f.server.limit ≡ 48000000
+  pub limit : f.server.limit ≡ MAX_MESSAGE_LEN
   pub taken_over : f.server.output ≡ []
   pub one : length f.server.waiting ≤ 1
   pub is_fed : IsFed came fed f

@@ -18,6 +18,7 @@ use Rattle.wire_serve.proofs.Acts.{Fits, Owned, acts_owned, end_of, same_fits}
 use Rattle.wire_serve.proofs.Places.{at_cases, at_one, at_push, found_or_not, none_past, not_past, one_far, one_here}
 use Rattle.wire_serve.proofs.Told.{contents_behind, contents_front}
 use Rattle.wire_serve.proofs.Counted.{acts_with_far, acts_with_here, deeds_on, link-push, many_set, no_link, no_turn, none_told, of_turns-push, one_link, slot_turns-push, these_told, turn_far, turn_here, with_acts}
+use Rattle.wire_msg.specs.declared.header.TheConstants.{MAX_MESSAGE_LEN}
 
 abbrev number_of : {L : Type 0} → SlotSeen L → ℕ
 number_of slot = slot.conn.server.connection
@@ -44,7 +45,7 @@ module _ {H L : Type 0} (does : Does H) (stops : Stops H) (t : Tells L) where
       record { link = h.link; over = link-push links c h.link x h.over; had = h.had; is = h.is; fits = h.fits; made = h.made }
 
   new_has : (c : ℕ) (links : List L) (link : L) → link_at links c ≡ Some link
-      → Has c links [] [] [] (new_server c 1 48000000) (new_slot c link)
+      → Has c links [] [] [] (new_server c 1 MAX_MESSAGE_LEN) (new_slot c link)
   new_has c links link over = record {
     link = link;
     over = over;
@@ -79,13 +80,13 @@ module _ {H L : Type 0} (does : Does H) (stops : Stops H) (t : Tells L) where
 
   module _ (made : ℕ → Made) (first : H) (one_each : (c : ℕ) → (made c).server_window ≡ 1) where
     abbrev begun : ServerEnds H
-    begun = first_servers_of 48000000 made 0 first
+    begun = first_servers_of MAX_MESSAGE_LEN made 0 first
 
     -- Connections and their servers, after these acts.
     record Holds (acts : List (ConnsAct L)) (conns : ConnsSeen H L) : Type 0 where
       turns : List Turn
       servers : ServerEnds H
-      grown : ServersGrow does stops 48000000 made begun turns servers
+      grown : ServersGrow does stops MAX_MESSAGE_LEN made begun turns servers
       opens : conns.next ≡ suc (length servers.servers)
       many : length (links_in acts) ≡ length servers.servers
       log : servers.log ≡ told_in acts ++ log_of conns.logged.entries.items
@@ -207,14 +208,14 @@ module _ {H L : Type 0} (does : Does H) (stops : Stops H) (t : Tells L) where
       act = Opens key link
 
       abbrev more : ServerEnds H
-      more = opened 48000000 made h.servers
+      more = opened MAX_MESSAGE_LEN made h.servers
 
       -- the server and the slot that are made
       abbrev server : ServerView
-      server = new_server number (made number).server_window 48000000
+      server = new_server number (made number).server_window MAX_MESSAGE_LEN
 
-      server_is : server ≡ new_server number 1 48000000
-      server_is = ap (λ (w : ℕ). new_server number w 48000000) (one_each number)
+      server_is : server ≡ new_server number 1 MAX_MESSAGE_LEN
+      server_is = ap (λ (w : ℕ). new_server number w MAX_MESSAGE_LEN) (one_each number)
 
       slot_is : new_slot old.next link ≡ new_slot number link
       slot_is = ap (λ (n : ℕ). new_slot n link) h.opens
@@ -243,7 +244,7 @@ module _ {H L : Type 0} (does : Does H) (stops : Stops H) (t : Tells L) where
 
       has_own : Has number (links_in (acts ++ act ∷ [])) (turns_of number (acts ++ act ∷ [])) (server_acts_at number (deeds_of (h.turns ++ owners.Opens ∷ [])))
           (entries_of number h.servers.log) server (new_slot number link)
-      has_own = same_has number (links_in (acts ++ act ∷ [])) _ [] _ [] _ [] _ (new_server number 1 48000000) server (new_slot number link)
+      has_own = same_has number (links_in (acts ++ act ∷ [])) _ [] _ [] _ [] _ (new_server number 1 MAX_MESSAGE_LEN) server (new_slot number link)
           (new_slot number link) refl (no_more number ∙ unused.turns) (done_at number ∙ unused.none_done) unused.no_entries server_is refl (new_has number (links_in (acts ++ act ∷ [])) link link_is)
 
       abbrev last_of : ℕ → Option (SlotSeen L)
@@ -322,7 +323,7 @@ module _ {H L : Type 0} (does : Does H) (stops : Stops H) (t : Tells L) where
       opens_one = record {
         turns = h.turns ++ owners.Opens ∷ [];
         servers = more;
-        grown = grows_on does stops 48000000 made h.turns (owners.Opens ∷ []) begun h.servers more h.grown refl;
+        grown = grows_on does stops MAX_MESSAGE_LEN made h.turns (owners.Opens ∷ []) begun h.servers more h.grown refl;
         opens = omega (arith, o.next, h.opens, length-push ss server);
         many = ap length (one_link acts key link) ∙ length-push (links_in acts) link ∙ ap suc h.many ∙ sym (length-push ss server);
         log = h.log ∙ sym log_stays;
@@ -380,10 +381,10 @@ module _ {H L : Type 0} (does : Does H) (stops : Stops H) (t : Tells L) where
           ap (λ (es : List LogEntry). record { servers = ss_; log = es; handler = old.logged.handler }) (sym h.log)
           ∙ ap (λ (x : H). record { servers = ss_; log = h.servers.log; handler = x }) (sym h.handler)
 
-      grows : ServersGrow does stops 48000000 made begun more_turns then_servers
+      grows : ServersGrow does stops MAX_MESSAGE_LEN made begun more_turns then_servers
       grows =
-          grows_on does stops 48000000 made h.turns (map owners.Is (at_server c owned.acts)) begun h.servers then_servers h.grown
-          (run_grows does stops 48000000 made (at_server c owned.acts) h.servers then_servers
+          grows_on does stops MAX_MESSAGE_LEN made h.turns (map owners.Is (at_server c owned.acts)) begun h.servers then_servers h.grown
+          (run_grows does stops MAX_MESSAGE_LEN made (at_server c owned.acts) h.servers then_servers
           (subst (λ (z : ServerEnds H). ServersRun does stops z (at_server c owned.acts) then_servers) servers_are
           (run_among does stops owned.acts c ss_ (end_of does stops t told h.known a.slot.conn.server old.logged) after_server server_there owned.run)))
 

@@ -16,6 +16,7 @@ use Rattle.wire_serve.specs.declared.cause.CloseCause.{CloseCause}
 use Rattle.wire_model.specs.{ServerAct, ServerMovesOn, bytes_sent_down, bytes_taken_up}
 use Rattle.wire_model.specs.Owners.{TakesUp}
 use Rattle.wire_serve.specs.Owning.{FedAs, IsFed, and_a_message, and_a_query}
+use Rattle.wire_msg.specs.declared.header.TheConstants.{MAX_MESSAGE_LEN}
 
 -- ---- a whole message
 
@@ -107,7 +108,7 @@ one_piece came fed piece old new s r t is f = record {
   quiet = refl;
 }
 
-pub takes : (came fed bytes : List ℕ) (old new : ConnView) → old.server.limit ≡ 48000000 → IsReady old → ConnTakes old bytes new
+pub takes : (came fed bytes : List ℕ) (old new : ConnView) → old.server.limit ≡ MAX_MESSAGE_LEN → IsReady old → ConnTakes old bytes new
     → IsFed came fed old → Feeds (came ++ bytes) fed old new
 takes came fed bytes old new limit r (goes_on s some empty t is) d =
     let alone : came ≡ d.came_whole ++ old.server.held = d.came_is ∙ ap (λ (p : List ℕ). d.came_whole ++ (p ++ old.server.held)) empty in

@@ -11,8 +11,9 @@ use Rattle.wire_stream.specs.declared.reader_state.ReaderState.TheVariants.{Bad,
 use Rattle.wire_peer.specs.{ServerView, TakesBytes}
 use Rattle.wire_peer.specs.Servers.{holding}
 use Rattle.wire_serve.specs.Passing.{TakesNext, with_request}
+use Rattle.wire_msg.specs.declared.header.TheConstants.{MAX_MESSAGE_LEN}
 
-alone : (m : Message) (bytes : List ℕ) → SpellsMsg m bytes → length bytes ≤ 48000000 → IsWhole 48000000 bytes m []
+alone : (m : Message) (bytes : List ℕ) → SpellsMsg m bytes → length bytes ≤ MAX_MESSAGE_LEN → IsWhole MAX_MESSAGE_LEN bytes m []
 alone m bytes s le = record { conn = bytes; parts = sym (append-nil bytes); spelled = s; within = le }
 
 -- one request may wait
@@ -22,11 +23,11 @@ room s next = omega (arith, ap length next.none_waits, next.window)
 -- ---- a whole message
 
 fed_as : (found : ReaderState) (s : ServerView) (msg bytes : List ℕ) (n : ℕ) (m : Message) → s.held ≡ [] → s.waiting ≡ []
-    → bytes ≡ take n msg → (found ≡ Need → n ≡ length msg) → StandsAt 48000000 bytes found → SpellsMsg m msg
-    → length msg ≤ 48000000 → holding s bytes found ≡ with_request s msg
+    → bytes ≡ take n msg → (found ≡ Need → n ≡ length msg) → StandsAt MAX_MESSAGE_LEN bytes found → SpellsMsg m msg
+    → length msg ≤ MAX_MESSAGE_LEN → holding s bytes found ≡ with_request s msg
 fed_as Need s msg bytes n m none waits is all stands spelled le =
     let whole : bytes ≡ msg = is ∙ ap (λ (k : ℕ). take k msg) (all refl) ∙ take-length msg in
-    absurd (open_not_whole 48000000 msg [] m (subst (IsOpen 48000000) whole stands) (alone m msg spelled le))
+    absurd (open_not_whole MAX_MESSAGE_LEN msg [] m (subst (IsOpen MAX_MESSAGE_LEN) whole stands) (alone m msg spelled le))
 fed_as Ready s msg bytes n m none waits is all stands spelled le =
     let parts : bytes ++ drop n msg ≡ msg ++ [] = ap (λ (b : List ℕ). b ++ drop n msg) is ∙ take-append-drop n msg ∙ sym (append-nil msg) in
     let same = one_front stands.1.0 m bytes msg (drop n msg) [] (msg_are_bytes stands.1.0 bytes stands.1.1) stands.1.1 spelled parts in
@@ -35,12 +36,12 @@ fed_as Ready s msg bytes n m none waits is all stands spelled le =
     ∙ ap (λ (h : List ℕ). record s { held = h; waiting = msg ∷ [] }) (sym none)
 fed_as (Bad f) s msg bytes n m none waits is all stands spelled le =
     let whole : bytes ++ drop n msg ≡ msg = ap (λ (b : List ℕ). b ++ drop n msg) is ∙ take-append-drop n msg in
-    let bad : IsBad 48000000 msg f = subst (λ (b : List ℕ). IsBad 48000000 b f) whole (bad_longer 48000000 bytes (drop n msg) f stands) in
-    absurd (bad_not_whole 48000000 msg [] m f (msg_are_bytes m msg spelled) bad (alone m msg spelled le))
+    let bad : IsBad MAX_MESSAGE_LEN msg f = subst (λ (b : List ℕ). IsBad MAX_MESSAGE_LEN b f) whole (bad_longer MAX_MESSAGE_LEN bytes (drop n msg) f stands) in
+    absurd (bad_not_whole MAX_MESSAGE_LEN msg [] m f (msg_are_bytes m msg spelled) bad (alone m msg spelled le))
 
 -- a server between messages that takes some of a whole message takes all of it, and it waits
 pub fed_whole : (s s' : ServerView) (msg : List ℕ) (n : ℕ) (m : Message) → TakesNext s → TakesBytes s msg n s' → SpellsMsg m msg
-    → length msg ≤ 48000000 → s' ≡ with_request s msg
+    → length msg ≤ MAX_MESSAGE_LEN → s' ≡ with_request s msg
 fed_whole s s' msg n m next t spelled le =
     t.is ∙ fed_as t.found s msg t.bytes n m next.between next.none_waits
     (t.fed.held ∙ ap (λ (h : List ℕ). h ++ take n msg) next.between) t.fed.all

@@ -13,6 +13,7 @@ use Rattle.wire_serve.specs.declared.passing.Passed.TheVariants as passed
 use Rattle.wire_serve.specs.ServerConnections.{ConnTakes, IsReady, asks, begins, gathers, goes_on, refuses}
 use Rattle.wire_serve.specs.Kept.{view_of}
 use Rattle.wire_serve.specs.Passing.{PassesOn, TakesNext}
+use Rattle.wire_msg.specs.declared.header.TheConstants.{MAX_MESSAGE_LEN}
 
 -- ---- the server, without its output
 
@@ -57,7 +58,7 @@ not_inside [] none = refl
 not_inside (b ∷ bytes) none = absurd (subst IsFalse (none (λ e. absurd (cc))) tt)
 
 pub next_of : (s : ServerView) (part : List ℕ) (queried : Bool) (reply : List ℕ) (gone : ℕ) (cause : Option CloseCause)
-    → IsReady (view_of s part queried reply gone cause) → s.held ≡ [] → s.limit ≡ 48000000 → TakesNext s
+    → IsReady (view_of s part queried reply gone cause) → s.held ≡ [] → s.limit ≡ MAX_MESSAGE_LEN → TakesNext s
 next_of s part queried reply gone cause r between limit = record {
   is_open = r.is_open;
   between = between;

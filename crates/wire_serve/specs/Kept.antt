@@ -5,6 +5,7 @@ use Rattle.wire_peer.specs.{ServerView}
 use Rattle.wire_serve.specs.declared.cause.CloseCause.{CloseCause}
 use Rattle.wire_serve.specs.ServerConnections.{ConnView}
 use Rattle.wire_serve.specs.Heads.{IsPart}
+use Rattle.wire_msg.specs.declared.header.TheConstants.{MAX_MESSAGE_LEN}
 
 -- what a caller sees of these parts
 abbrev pub view_of : ServerView → (part : List ℕ) → (queried : Bool) → (reply : List ℕ)
@@ -23,7 +24,7 @@ view_of server part queried reply gone cause = record {
 pub record AreKept (server : ServerView) (part reply : List ℕ) (gone : ℕ)
     (cause : Option CloseCause) : Type 0 where
   pub window : server.window ≡ 1
-  pub limit : server.limit ≡ 48000000
+  pub limit : server.limit ≡ MAX_MESSAGE_LEN
   pub within : gone ≤ length reply
   pub one : gone < length reply → server.output ≡ []
   pub begun : cause ≡ None → IsPart part

@@ -18,6 +18,7 @@ use Rattle.wire_serve.specs.declared.cause.CloseCause.{CloseCause}
 use Rattle.wire_model.specs.Hostile.{entries_of}
 use Rattle.wire_model.specs.{Made, ServerAct, ServerEnds, ServersGrow, Turn, bytes_sent_down}
 use Rattle.wire_model.specs.{bytes_taken_up, deeds_of, first_servers_of, server_acts_at, server_at}
+use Rattle.wire_msg.specs.declared.header.TheConstants.{MAX_MESSAGE_LEN}
 
 -- ---- one connection, in two spellings
 
@@ -108,7 +109,8 @@ pub record OwnsServers {H L : Type 0} (does : Does H) (stops : Stops H) (t : Tel
     (made : ℕ → Made) (first : H) (acts : List (ConnsAct L)) (conns : ConnsSeen H L) : Type 0 where
   pub turns : List Turn
   pub servers : ServerEnds H
-  pub grown : ServersGrow does stops 48000000 made (first_servers_of 48000000 made 0 first) turns
+  pub grown : ServersGrow does stops MAX_MESSAGE_LEN made
+      (first_servers_of MAX_MESSAGE_LEN made 0 first) turns
       servers
   pub opened : conns.next ≡ suc (length servers.servers)
   pub log : servers.log ≡ told_in acts ++ log_of conns.logged.entries.items

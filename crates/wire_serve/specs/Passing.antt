@@ -11,6 +11,7 @@ use Rattle.wire_serve.specs.declared.passing.NoMessage.TheVariants as no_message
 use Rattle.wire_serve.specs.declared.passing.Passed.{Passed}
 use Rattle.wire_serve.specs.declared.passing.Passed.TheVariants as passed
 use Rattle.wire_serve.specs.Heads.{IsOtherHeader, IsPart, IsWholeQuery}
+use Rattle.wire_msg.specs.declared.header.TheConstants.{MAX_MESSAGE_LEN}
 
 -- the bytes spell a query, and this is its message; or they are no query, by this fault
 abbrev pub AsksAs : List ℕ → Result (Vec ℕ Global) NoMessage → Type 0
@@ -26,7 +27,7 @@ pub record TakesNext (s : ServerView) : Type 0 where
   pub between : s.held ≡ []
   pub none_waits : s.waiting ≡ []
   pub window : s.window ≡ 1
-  pub limit : s.limit ≡ 48000000
+  pub limit : s.limit ≡ MAX_MESSAGE_LEN
 
 -- the server in which this request waits
 abbrev pub with_request : ServerView → List ℕ → ServerView

@@ -6,6 +6,7 @@ use Rattle.wire_query.specs.{reply_bytes, reply_len}
 use Rattle.wire_query.specs.Replies.{command_head}
 use Rattle.wire_serve.specs.declared.cause.CloseCause.{CloseCause}
 use Rattle.wire_serve.specs.declared.cause.CloseCause.TheVariants as causes
+use Rattle.wire_msg.specs.declared.header.TheConstants.{MAX_MESSAGE_LEN}
 
 -- The bytes spell a message with no document sequence, and these are the OP_REPLY with its ids and
 -- its body.
@@ -18,9 +19,9 @@ pub record Respells (bytes reply : List ℕ) : Type 0 where
 -- why the bytes of a message have no OP_REPLY
 abbrev pub NoRespelling : List ℕ → CloseCause → Type 0
 NoRespelling bytes causes.NotAlone =
-    (m : Message) → SpellsMsg m bytes → length bytes ≤ 48000000 → m.content.sequences ≢ []
+    (m : Message) → SpellsMsg m bytes → length bytes ≤ MAX_MESSAGE_LEN → m.content.sequences ≢ []
 NoRespelling bytes causes.ReplyTooLarge =
-    (m : Message) → SpellsMsg m bytes → 48000000 < reply_len m.content.body
+    (m : Message) → SpellsMsg m bytes → MAX_MESSAGE_LEN < reply_len m.content.body
 NoRespelling bytes causes.NoMemory = Unit {0}
 NoRespelling bytes cause = ⊥
 

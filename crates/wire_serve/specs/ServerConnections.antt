@@ -17,6 +17,7 @@ use Rattle.wire_serve.specs.declared.cause.ConnState.TheVariants.{Closed, Open}
 use Rattle.wire_serve.specs.Heads.{IsOtherHeader, IsPart, IsWholeQuery}
 use Rattle.wire_serve.specs.Passing.{with_request}
 use Rattle.wire_serve.specs.Respelling.{NoRespelling, Respells}
+use Rattle.wire_msg.specs.declared.header.TheConstants.{MAX_MESSAGE_LEN}
 
 -- What a caller sees of a server connection: its server, whose output the server connection takes
 -- over at once; the bytes that were taken and not passed on yet, the first ones of a header or of a
@@ -32,7 +33,7 @@ pub record ConnView : Type 0 where
 -- the server's side of a connection before its first byte
 abbrev pub new_conn : ℕ → ConnView
 new_conn connection = record {
-  server = new_server connection 1 48000000;
+  server = new_server connection 1 MAX_MESSAGE_LEN;
   part = [];
   queried = false;
   output = [];

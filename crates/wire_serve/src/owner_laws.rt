@@ -4,6 +4,7 @@ ghost use Rattle.std.specs.Prelude.{◌≡◌, Bool, List, [], false, ℕ};
 ghost use Rattle.wire_model.specs.{AreMade, Arrive, ClientEnd, ClientRun, Made, PairsKnow, Turn};
 ghost use Rattle.wire_model.specs.{acts_at, deeds_beside, deeds_of, first_end, opened_in};
 ghost use Rattle.wire_model.specs.{server_turns};
+ghost use Rattle.wire_msg.specs.declared.header.TheConstants.{MAX_MESSAGE_LEN};
 ghost use Rattle.wire_serve.specs.Connections.{AreNewConns, ConnsAct, ConnsRun, ConnsSeen};
 ghost use Rattle.wire_serve.specs.Slots.{tells};
 ghost use Rattle.wire_serve.specs.Owning.{OwnsServers};
@@ -35,7 +36,7 @@ pub fn clients_know<L: Link, H: Handler>()
         made first acts conns) (strange : ℕ → Bool) (turns : List Turn) (ends : ℕ → ClientEnd)
         → AreMade made → server_turns turns ≡ server_turns owned.turns
         → ((c : ℕ) → strange c ≡ false
-        → ClientRun c (first_end 48000000 made c) (acts_at c (deeds_of turns)) (ends c))
+        → ClientRun c (first_end MAX_MESSAGE_LEN made c) (acts_at c (deeds_of turns)) (ends c))
         → Arrive (λ _. []) (λ _. []) (deeds_beside strange (deeds_of turns))
         → PairsKnow H.does H.stops strange (opened_in turns) first (deeds_of turns) ends
         owned.servers }

@@ -19,17 +19,18 @@ use Rattle.wire_share.proofs.Lasts.{all_last, is_last}
 use Rattle.wire_share.proofs.Pairing.{Fits, fits_on, paired, split_run}
 use Rattle.wire_share.proofs.Parts.{AllLast, has_last, none_front, none_later, not_among, only_part}
 use Rattle.wire_share.proofs.Records.{Has, made_asked}
+use Rattle.wire_msg.specs.declared.header.TheConstants.{MAX_MESSAGE_LEN}
 
 module _ (acts : List ShareAct) (downs : ℕ → DownSeen) (made : ℕ → Made) (ends : ℕ → ClientEnd) (fit : AreFit acts)
     (below : (d : ℕ) → DownRun (new_downstream d) (acts_at acts d) (downs d))
-    (above : (u : ℕ) → ClientRun u (first_end 48000000 made u) (acts_of acts u) (ends u))
-    (alone : (u : ℕ) → HoldsAlone 48000000 (acts_of acts u) (ends u)) where
+    (above : (u : ℕ) → ClientRun u (first_end MAX_MESSAGE_LEN made u) (acts_of acts u) (ends u))
+    (alone : (u : ℕ) → HoldsAlone MAX_MESSAGE_LEN (acts_of acts u) (ends u)) where
   none_behind : (u : ℕ) → NoneBehind (handed (acts_of acts u))
   none_behind u = none_front (handed (acts_of acts u)) (alone u).ready (alone u).none_behind
 
   -- each reply that it hands out is the last one of its call
   last : (u : ℕ) → AllLast (handed (acts_of acts u))
-  last u = all_last (acts_of acts u) 48000000 (alone u).heard (alone u).ready (acts_once acts u) (alone u).hears (alone u).replies
+  last u = all_last (acts_of acts u) MAX_MESSAGE_LEN (alone u).heard (alone u).ready (acts_once acts u) (alone u).hears (alone u).replies
 
   -- what the upstream of an answer hands out
   handed_is : (before after : List ShareAct) (d u : ℕ) (m answer : Message) (reply : ReadyReply) (told : List LogEntry) → acts ≡ before ++ Gives d u m reply answer told ∷ after
@@ -40,8 +41,8 @@ module _ (acts : List ShareAct) (downs : ℕ → DownSeen) (made : ℕ → Made)
   recorded_at : (v : ℕ) (before after : List ClientAct) (kind : CallKind) (payload : Payload) (number : CallNo) → acts_of acts v ≡ before ++ owners.Calls kind payload number ∷ after
       → Has v (ends v).records number.number (asked_as kind (content_of payload))
   recorded_at v before after kind payload number is =
-      made_asked v before kind payload number after (first_end 48000000 made v) (ends v) (λ n zero. sym (zero_is n zero))
-      (subst (λ (xs : List ClientAct). ClientRun v (first_end 48000000 made v) xs (ends v)) is (above v))
+      made_asked v before kind payload number after (first_end MAX_MESSAGE_LEN made v) (ends v) (λ n zero. sym (zero_is n zero))
+      (subst (λ (xs : List ClientAct). ClientRun v (first_end MAX_MESSAGE_LEN made v) xs (ends v)) is (above v))
     where
       zero_is : (n : ℕ) → Some 0 ≡ Some n → 0 ≡ n
       zero_is n zero = cc

@@ -9,6 +9,7 @@ use Rattle.wire_model.specs.Machines.{Answered, Mute, Never, OnWay, Place, Waiti
 use Rattle.wire_model.specs.{AreMade, ClientEnd, Deed, Made, OwnersKnow, ServerEnds}
 use Rattle.wire_share.specs.Acts.{Gives, ShareAct}
 use Rattle.wire_share.specs.Mixing.{AnswersAreTheServers, IsAmong, IsEntryOf, IsMadeSo, IsReplyTo, NeverMixed}
+use Rattle.wire_msg.specs.declared.header.TheConstants.{MAX_MESSAGE_LEN}
 
 -- the entry that a place names, if it names one
 index : Place → ℕ
@@ -19,7 +20,7 @@ index Waiting = 0
 index Never = 0
 
 -- the numbers of an upstream's client are good ones
-pub limit_is : IsLimit 48000000
+pub limit_is : IsLimit MAX_MESSAGE_LEN
 limit_is = (omega arith, omega arith)
 
 pub are_made : (made : ℕ → Made) → ((u : ℕ) → IsMadeSo (made u)) → AreMade made

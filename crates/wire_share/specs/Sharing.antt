@@ -21,6 +21,7 @@ use Rattle.wire_share.specs.declared.refusals.GiveRefusal.TheVariants as given
 use Rattle.wire_share.specs.declared.refusals.PassRefusal.{PassRefusal}
 use Rattle.wire_share.specs.declared.refusals.PassRefusal.TheVariants as passing
 use Rattle.wire_share.specs.declared.relayed.Relayed.{Relayed}
+use Rattle.wire_msg.specs.declared.header.TheConstants.{MAX_MESSAGE_LEN}
 
 -- the connection of a client, and the call that its request was passed on as, if one was
 pub record DownSeen : Type 0 where
@@ -36,7 +37,7 @@ abbrev pub new_downstream : ℕ → DownSeen
 new_downstream connection = record { conn = new_conn connection; awaited = None }
 
 abbrev pub new_upstream : ℕ → UpSeen
-new_upstream number = record { number = number; client = new_client (pos 1) 1024 48000000 }
+new_upstream number = record { number = number; client = new_client (pos 1) 1024 MAX_MESSAGE_LEN }
 
 abbrev pub with_client : UpSeen → ClientSeen → UpSeen
 with_client u client = record u { client = client }

@@ -2,6 +2,7 @@
 
 ghost use Rattle.std.specs.Prelude.{◌≡◌, [], List, ℕ};
 ghost use Rattle.bson_elem.specs.{IsBytes};
+ghost use Rattle.wire_msg.specs.declared.header.TheConstants.{MAX_MESSAGE_LEN};
 ghost use Rattle.wire_peer.specs.{IsLimit};
 ghost use Rattle.wire_model.specs.{Arrive, ClientEnd, ClientRun, Deed, Made, ServerEnds};
 ghost use Rattle.wire_model.specs.{ServersRun, bytes_taken, first_end, servers_with_limits};
@@ -22,7 +23,7 @@ pub fn answers_are_never_mixed()
         (ends : ℕ → ClientEnd)
         → AreFit acts → ((u : ℕ) → IsMadeSo (made u))
         → ((d : ℕ) → DownRun (new_downstream d) (acts_at acts d) (downs d))
-        → ((u : ℕ) → ClientRun u (first_end 48000000 made u) (acts_of acts u) (ends u))
+        → ((u : ℕ) → ClientRun u (first_end MAX_MESSAGE_LEN made u) (acts_of acts u) (ends u))
         → ((u : ℕ) → IsBytes (bytes_taken (acts_of acts u)))
         → NeverMixed acts ends }
 {
@@ -39,7 +40,7 @@ pub fn each_answer_is_the_servers<H: Handler>()
         → AreFit acts → ((u : ℕ) → IsMadeSo (made u))
         → ((d : ℕ) → DownRun (new_downstream d) (acts_at acts d) (downs d))
         → ((u : ℕ) → at_ends.acts_at u deeds ≡ acts_of acts u)
-        → ((u : ℕ) → ClientRun u (first_end 48000000 made u) (acts_of acts u) (ends u))
+        → ((u : ℕ) → ClientRun u (first_end MAX_MESSAGE_LEN made u) (acts_of acts u) (ends u))
         → ((u : ℕ) → IsBytes (bytes_taken (acts_of acts u)))
         → ((u : ℕ) → IsLimit (limit u))
         → ServersRun H.does H.stops (servers_with_limits limit made k first) deeds servers

@@ -2,6 +2,7 @@
 
 ghost use Rattle.std.specs.Prelude.{◌≡◌, ◌<◌, ◌≤◌, ◌+◌, ◌-◌, ◌++◌, IfOk, List, length, min, take};
 ghost use Rattle.std.specs.Prelude.{vec_capacity, ℕ};
+ghost use Rattle.wire_msg.specs.declared.header.TheConstants.{MAX_MESSAGE_LEN};
 ghost use Rattle.wire_msg.specs.{IsGoodHeader, header_of, number_at};
 ghost use Rattle.wire_stream.specs.Holding.{IsBegun};
 ghost use Rattle.wire_stream.specs.Readers.{Feeds, StandsAt};
@@ -51,7 +52,7 @@ pub(crate) fn begin_message(
 
 /// Returns the reader's state. `message` is the first part of a message of `announced` bytes.
 fn state_of(alloc: Global, message: &[u8], announced: usize, limit: u32) -> ReaderState
-    requires limit { limit ≤ 48_000_000 }
+    requires limit { limit ≤ MAX_MESSAGE_LEN }
     requires header { 16 ≤ length message.now }
     requires good { IsGoodHeader limit (header_of message.now) }
     requires announced { announced ≡ number_at message.now 0 }
@@ -70,7 +71,7 @@ fn state_of(alloc: Global, message: &[u8], announced: usize, limit: u32) -> Read
 
 /// Appends bytes from the front of `piece`, until the message is whole or the piece is used up.
 pub(crate) fn append_piece(alloc: Global, message: &mut Vec<u8>, limit: u32, piece: &[u8]) -> Fed
-    requires limit { limit ≤ 48_000_000 }
+    requires limit { limit ≤ MAX_MESSAGE_LEN }
     requires begun { IsBegun limit message.old }
     ensures fed { Feeds limit message.old.items piece.now message.new.items result }
     ensures begun { IsBegun limit message.new }

@@ -1,6 +1,7 @@
 //! Reads all messages of bytes that come in pieces.
 
 ghost use Rattle.std.specs.Prelude.{◌≡◌, ◌≤◌, ◌++◌, IfOk, List, OnErr, flat_map, ℕ};
+ghost use Rattle.wire_msg.specs.declared.header.TheConstants.{MAX_MESSAGE_LEN};
 ghost use Rattle.wire_msg.specs.{IsOpen};
 ghost use Rattle.wire_stream.specs.Cutting.{AnnouncesMore, Cuts};
 ghost use Rattle.wire_stream.specs.Gathering.{Gathered, Gathers};
@@ -28,7 +29,7 @@ pub struct PiecesRead {
 /// Returns `OutOfMemory` if memory runs out: for a message that a good header announces, or for the
 /// list of messages.
 pub fn read_pieces(alloc: Global, limit: u32, pieces: &[&[u8]]) -> Result<PiecesRead, ReadRefusal>
-    requires { limit ≤ 48_000_000 }
+    requires { limit ≤ MAX_MESSAGE_LEN }
     ensures limit { IfOk result (λ read. read.reader.limit ≡ limit) }
     ensures cuts { IfOk result (λ read.
         Cuts limit (flat_map

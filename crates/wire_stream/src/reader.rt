@@ -2,6 +2,7 @@
 
 ghost use Rattle.std.specs.Prelude.{◌≡◌, ◌≢◌, ◌≤◌, ◌<◌, ◌+◌, ◌++◌, [], IfOk, IfNone, IfSome};
 ghost use Rattle.std.specs.Prelude.{IsOkAnd, IsSome, List, OnErr, length, max, take, ℕ};
+ghost use Rattle.wire_msg.specs.declared.header.TheConstants.{MAX_MESSAGE_LEN};
 ghost use Rattle.wire_msg.specs.{IsBad, IsMessage, IsOpen, msg_bytes};
 ghost use Rattle.wire_msg.specs.declared.fault.MsgFault.{MsgFault};
 ghost use Rattle.wire_stream.specs.Readers.{CompletesHeader, Feeds, IsRoom, Reading, StandsAt};
@@ -42,7 +43,7 @@ impl Model for MsgReader {
     ghost view = { λ s. record { limit = s.limit; held = held_of s.header s.len s.message } };
 
     ghost invariant = { λ s. record {
-      limit : s.limit ≤ 48_000_000;
+      limit : s.limit ≤ MAX_MESSAGE_LEN;
       whole : length s.header ≡ 16;
       state : StandsAt s.limit (held_of s.header s.len s.message) s.state;
       kept : IsKept s.limit s.header s.len s.message;
@@ -53,7 +54,7 @@ impl MsgReader {
     /// Makes a reader of messages of at most `limit` bytes. It holds no bytes, and takes no
     /// memory.
     pub fn new(alloc: Global, limit: u32) -> MsgReader
-        requires { limit ≤ 48_000_000 }
+        requires { limit ≤ MAX_MESSAGE_LEN }
         ensures { result ≡ record { limit = limit; held = [] } }
     {
         MsgReader {

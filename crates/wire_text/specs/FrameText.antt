@@ -11,6 +11,7 @@ use Rattle.wire_frames.specs.declared.opcode.Opcode.TheVariants.{Reply, Query, C
 use Rattle.wire_frames.specs.declared.opcode.Opcode.TheVariants.{Other}
 use Rattle.wire_frames.specs.{IsChecksumOf, IsOwnKind, opcode_number}
 use Rattle.wire_text.specs.MessageText.{message_text, msg_fault_line}
+use Rattle.wire_msg.specs.declared.header.TheConstants.{MAX_MESSAGE_LEN}
 
 -- the word for each kind of messages
 abbrev pub kind_word : Opcode → List ℕ
@@ -36,7 +37,7 @@ header_line kind h =
 abbrev pub IsMsgText : ℕ → List ℕ → List ℕ → Type 0
 IsMsgText start bytes text =
     ((m : Message) × SpellsMsg m bytes × (text ≡ message_text m))
-    ⊎ ((f : MsgFault) × FaultMsg bytes 48000000 f
+    ⊎ ((f : MsgFault) × FaultMsg bytes MAX_MESSAGE_LEN f
     × (text ≡ header_line Msg (header_of bytes) ++ msg_fault_line (start + f.at) f.cause))
 
 -- what is written of a frame of this kind, but for its checksum

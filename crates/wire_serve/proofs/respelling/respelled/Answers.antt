@@ -9,6 +9,7 @@ use Rattle.wire_query.specs.Replies.{command_head}
 use Rattle.wire_query.specs.declared.reply.ReplyHead.{ReplyHead}
 use Rattle.wire_serve.proofs.Sequencing.{none_left, some_left}
 use Rattle.wire_serve.proofs.respelling.respelled.Goals as goal
+use Rattle.wire_msg.specs.declared.header.TheConstants.{MAX_MESSAGE_LEN}
 
 -- a number as its 32 bits, and back
 abbrev again : ℤ → ℤ
@@ -44,5 +45,5 @@ pub returns-in-Err-TooLarge : goal.returns-in-Err-TooLarge
 returns-in-Err-TooLarge c = λ m s.
     let t : SpellsMsg m (msg_bytes c.in-Ok.message) = subst (SpellsMsg m) (sym c.in-Ok.ensures.found.0) s in
     let b : Spells m.content.body (document_bytes c.body.result) = c.body.ensures m.content (c.payload-payload.ensures m t) in
-    subst (λ (e : MsgRefusal). IsWriteRefusal 48000000 (reply_len m.content.body) e) c.in-Err-TooLarge.field-0-is
+    subst (λ (e : MsgRefusal). IsWriteRefusal MAX_MESSAGE_LEN (reply_len m.content.body) e) c.in-Err-TooLarge.field-0-is
     (c.in-Err-TooLarge.ensures.refused m.content.body b)

@@ -6,6 +6,7 @@ use Rattle.wire_frames.specs.{frame_bytes}
 use Rattle.wire_text.specs.FrameText.{IsMsgText, header_line}
 use Rattle.wire_text.specs.MessageText.{message_text, msg_fault_line}
 use Rattle.wire_text.proofs.frame_text.write_op_msg.Goals as goal
+use Rattle.wire_msg.specs.declared.header.TheConstants.{MAX_MESSAGE_LEN}
 
 pub returns-in-Ok : goal.returns-in-Ok
 returns-in-Ok g c =
@@ -20,7 +21,7 @@ returns-in_ok-write_header-in-Err g c =
     let f = c.in-Err.fault in
     let bytes = frame_bytes c.args.frame in
     let line = msg_fault_line (c.args.start + f.at) f.cause in
-    let fault = subst (λ (b : List ℕ). FaultMsg b 48000000 f) c.as_bytes.ensures c.in-Err.ensures.fault in
+    let fault = subst (λ (b : List ℕ). FaultMsg b MAX_MESSAGE_LEN f) c.as_bytes.ensures c.in-Err.ensures.fault in
     one_then_word c.write_msg_fault.result _ _ _ line (λ text. text ≡ header_line Msg (header_of bytes)) (IsMsgText c.args.start bytes)
     (λ text is. inr (f, fault, ap (λ (x : List ℕ). x ++ line) is))
     (header_line Msg c.header.result, ap (header_line Msg) c.header.ensures, c.in_ok-write_header-in-Err.ensures)
