@@ -1,9 +1,9 @@
 -- Documents back to back.
-use Rattle.std.proofs.Common.{◌≡◌, ◌≢◌, ℕ, ◌+◌, ◌-◌, List, [], ◌∷◌, ◌++◌, length, refl, sym, ap, subst, ◌∙◌, append_assoc, arith, length-append}
+use Rattle.std.proofs.Common.{◌≡◌, ◌≢◌, ℕ, ◌+◌, ◌-◌, List, [], ◌∷◌, ◌++◌, length, refl, sym, ap, ◌∙◌, append_assoc, arith, length-append}
 use Rattle.std.proofs.lemmas.List.{append-nil}
 use Rattle.bson_elem.specs.declared.fault.BsonFault.{BsonFault}
 use Rattle.bson_elem.specs.Trees.{Tree}
-use Rattle.bson_elem.specs.Spelling.{document, elements, Spells}
+use Rattle.bson_elem.specs.Spelling.{document, elements}
 use Rattle.bson_elem.specs.Faults.{FrontFault}
 use Rattle.bson_raw.specs.Spelled.{IsSpelled}
 use Rattle.wire_msg.specs.declared.fault.MsgCause.TheVariants.{Document}

@@ -1,5 +1,5 @@
 -- Bytes are messages and a rest in one way.
-use Rattle.std.proofs.Common.{◌≡◌, ◌⊎◌, inl, inr, ℕ, ◌<◌, ◌≤◌, List, [], ◌∷◌, ◌++◌, length, refl, sym, ap, subst, ◌∙◌, append_assoc, append-nil, arith, length-append}
+use Rattle.std.proofs.Common.{◌≡◌, ◌⊎◌, inl, inr, ℕ, ◌<◌, ◌≤◌, List, [], ◌∷◌, ◌++◌, length, refl, sym, ap, subst, ◌∙◌, append_assoc, arith, length-append}
 use Rattle.bson_elem.specs.Spelling.{IsBytes}
 use Rattle.bson_elem.proofs.Lemmas.{IsBytes-after}
 use Rattle.wire_msg.specs.declared.fault.MsgFault.{MsgFault}
