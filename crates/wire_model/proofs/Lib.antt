@@ -78,7 +78,7 @@ pub mod WiderServer
 pub mod WiderClient
 pub mod WiderActs
 pub mod WiderServes
-pub mod Limits
+pub mod EndLimits
 pub mod LimitsKnow
 pub mod Feeding
 pub mod Acts

@@ -13,7 +13,7 @@ use Rattle.wire_model.specs.Deeds.{Arrive, Deed, ServersRun, acts_at}
 use Rattle.wire_model.specs.Knowing.{AreQuiet, HoldsBeginning, IsCallOf, IsEntry, Owned, OwnersKnow}
 use Rattle.wire_model.specs.Limits.{servers_with, servers_with_limits}
 use Rattle.wire_model.proofs.Knows.{know}
-use Rattle.wire_model.proofs.Limits.{Found, find}
+use Rattle.wire_model.proofs.EndLimits.{Found, find}
 use Rattle.wire_model.proofs.Starts.{many_servers}
 use Rattle.wire_model.proofs.WiderActs.{EndLike}
 use Rattle.wire_model.proofs.WiderClient.{Like, like_back, like_there, open_too}

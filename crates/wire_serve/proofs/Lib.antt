@@ -14,6 +14,6 @@ pub mod Told
 pub mod Acts
 pub mod Counted
 pub mod Places
-pub mod Connections
+pub mod OwnerActs
 pub mod Beside
 pub mod Lemmas

@@ -1,5 +1,5 @@
 use Rattle.wire_serve.specs.Slots.{tells}
-use Rattle.wire_serve.proofs.Connections.{owns}
+use Rattle.wire_serve.proofs.OwnerActs.{owns}
 use Rattle.wire_serve.proofs.owner_laws.connections_own_servers.Goals as goal
 
 pub returns : goal.returns
