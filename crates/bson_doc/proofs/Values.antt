@@ -38,7 +38,7 @@ pub no_fewer : (before after added : List ℕ) → after ≡ before ++ added →
 no_fewer before after added e = omega (arith, ap length e, length-append before added)
 
 -- a type byte, a name and a value, one after another
-pub one_element : (before typed named : List ℕ) (byte kind : ℕ) (name value : List ℕ) → byte ≡ kind → typed ≡ before ++ byte ∷ [] → named ≡ typed ++ name → named ++ value ≡ before ++ (kind ∷ (name ++ value))
-one_element before typed named byte kind name value is e f =
-    ap (λ (x : List ℕ). x ++ value) (f ∙ ap (λ (x : List ℕ). x ++ name) e) ∙ append_assoc (before ++ byte ∷ []) name value ∙ append_assoc before (byte ∷ []) (name ++ value)
+pub one_element : (before headed : List ℕ) (byte kind : ℕ) (name value : List ℕ) → byte ≡ kind → headed ≡ before ++ (byte ∷ name) → headed ++ value ≡ before ++ (kind ∷ (name ++ value))
+one_element before headed byte kind name value is e =
+    ap (λ (x : List ℕ). x ++ value) e ∙ append_assoc before (byte ∷ name) value
     ∙ ap (λ (n : ℕ). before ++ (n ∷ (name ++ value))) is

@@ -2,7 +2,7 @@
 use Rattle.std.proofs.Common.{◌≡◌, ℕ, ◌+◌, ◌<◌, ◌≤◌, ◌^◌, Bool, true, false, cond, nat_lt, ◌||◌, ◌==◌, List, [], ◌∷◌, ◌++◌, Option, Some, None, length, take, drop, refl, sym, subst, ap, ◌∙◌, arith, append_assoc, length-append}
 use Rattle.std.specs.Option.{option_or}
 use Rattle.std.specs.Io.{StartsWith}
-use Rattle.std.specs.Prelude.{IsUtf8, Result, Ok, Err, OnOk, OnErr}
+use Rattle.std.specs.Prelude.{IfNone, IsUtf8, OnSome}
 use Rattle.std.proofs.lemmas.Bool.{ltb-true}
 use Rattle.std.proofs.lemmas.List.{take-append-drop}
 use Rattle.std.proofs.Math.Seq.{take-append_seam}
@@ -19,7 +19,7 @@ use Rattle.bson_raw.proofs.Lemmas.{inner_len}
 use Rattle.bson_doc.specs.declared.refusal.DocRefusal.{DocRefusal}
 use Rattle.bson_doc.specs.declared.refusal.DocRefusal.TheVariants.{RepeatedName, OutOfMemory, TooLarge, ZeroInName, Depth}
 use Rattle.bson_doc.specs.Formed.{IsFormedLeaf, IsFormed, IsFormedValue}
-use Rattle.bson_doc.specs.Refusals.{IsLengthRefusal, IsSizeRefusal}
+use Rattle.bson_doc.specs.Refusals.{IsLengthRefusal}
 use Rattle.bson_doc.specs.Unwritable.{has_zero, unwritable_leaf, unwritable, IsUnwritable}
 use Rattle.bson_doc.specs.Values.{value_bytes, value_kind, element_bytes}
 
@@ -114,14 +114,6 @@ pub formed-with_first : (n : List ℕ) (v : TreeValue) (ps : Tree) → IsUtf8 n 
 formed-with_first n (leaf_value k leaf) ps t f g = (t, f, g)
 formed-with_first n (document_value k b inner) ps t f g = (t, f.0, f.1, g)
 
--- a refusal of a part is one of the whole
-pub room_more : (limit n m : ℕ) (e : DocRefusal) → n ≤ m → IsSizeRefusal limit n e → IsSizeRefusal limit m e
-room_more limit n m (RepeatedName depth) more r = r
-room_more limit n m OutOfMemory more r = tt
-room_more limit n m TooLarge more r = omega (arith, r)
-room_more limit n m ZeroInName more r = r
-room_more limit n m Depth more r = r
-
 -- The pairs of the tree that are left stand behind bytes that were added. If they are formed, all are.
 pub record Written (t left : Tree) (begun out : List ℕ) : Type 0 where
   pub added : List ℕ
@@ -145,21 +137,14 @@ pub name_text : (in_array : Bool) (index : ℕ) (name : List ℕ) → index < 2 
 name_text true index name small f = IsUtf8-from_ascii (decimal index) (IsAscii-decimal index small)
 name_text false index name small f = f
 
--- the value of the first pair left is refused
-pub written_value_refused : (limit : ℕ) (t left : Tree) (begun out : List ℕ) (w : Written t left begun out) (n : List ℕ) (v : TreeValue) (others : Tree) (e : DocRefusal)
-    → left ≡ with_first n v others → IsSizeRefusal limit (length (value_bytes v)) e → IsSizeRefusal limit (length (document (elements t))) e
-written_value_refused limit t left begun out w n v others e first r =
-    room_more limit (length (value_bytes v)) (length (document (elements t))) e
-    (omega (arith, length-document (elements t), ap length w.elements_are, length-append w.added (elements left), ap length (ap elements first ∙ elements-with_first n v others), length-append (element_bytes n v) (elements others), length-append (cstring n) (value_bytes v))) r
-
 -- what holds in any case
-pub always : {T E : Type 0} (r : Result T E) {P : Type 0} → P → OnOk r P
-always (Ok x) p = p
-always (Err e) p = tt
+pub always : {T : Type 0} (o : Option T) {P : Type 0} → P → OnSome o P
+always (Some x) p = p
+always None p = tt
 
-pub always_err : {T E : Type 0} (r : Result T E) {P : Type 0} → P → OnErr r P
-always_err (Ok x) p = tt
-always_err (Err e) p = p
+pub always_none : {T : Type 0} (o : Option T) {P : Type 0} → P → IfNone o P
+always_none (Some x) p = tt
+always_none None p = p
 
 -- ---- what stands in front of bytes that are kept is kept
 
@@ -216,7 +201,3 @@ length_refused t limit OutOfMemory counted free r = (free, omega (arith, counted
 length_refused t limit TooLarge counted free r = (free, omega (arith, counted, r))
 length_refused t limit ZeroInName counted free r = absurd r
 length_refused t limit Depth counted free r = absurd r
-
-pub on_ok : {T E : Type 0} (r : Result T E) {P Q : Type 0} → (P → Q) → OnOk r P → OnOk r Q
-on_ok (Ok x) f p = f p
-on_ok (Err e) f p = p

@@ -21,12 +21,6 @@ refusal_text e = refusal_words e
 abbrev pub shown_refusal : DocRefusal → Option (List ℕ)
 shown_refusal e = Some (refusal_text e)
 
--- memory runs out, or the bytes are more than the limit
-abbrev pub IsSizeRefusal : ℕ → ℕ → DocRefusal → Type 0
-IsSizeRefusal limit count OutOfMemory = Unit {0}
-IsSizeRefusal limit count TooLarge = limit < count
-IsSizeRefusal limit count _ = ⊥
-
 -- the bytes are more than the limit; or they aren't, and memory runs out
 abbrev pub IsLengthRefusal : ℕ → ℕ → DocRefusal → Type 0
 IsLengthRefusal limit count OutOfMemory = count ≤ limit

@@ -1,6 +1,7 @@
 //! Appending a pair to the bytes of a document.
 
-ghost use Rattle.std.specs.Prelude.{◌≡◌, ◌≤◌, ◌+◌, ◌++◌, length, drop, vec_len, OnOk, OnErr, IfErr};
+ghost use Rattle.std.specs.Prelude.{◌≡◌, ◌≤◌, ◌+◌, ◌++◌, length, drop, vec_len, IfErr};
+ghost use Rattle.std.specs.Prelude.{IfNone, OnErr, OnOk, OnSome};
 ghost use Rattle.std.specs.Io.{StartsWith};
 ghost use Rattle.bson_elem.specs.{Spells, Tree, cstring};
 ghost use Rattle.bson_elem.specs.Spelling as spelling;
@@ -8,7 +9,7 @@ ghost use Rattle.bson_raw.specs.{IsSpelled};
 ghost use Rattle.bson_doc.specs.Bson.{value_of};
 ghost use Rattle.bson_doc.specs.Formed.{IsFormedValue};
 ghost use Rattle.bson_doc.specs.Appended.{with_pair_appended};
-ghost use Rattle.bson_doc.specs.Refusals.{IsLengthRefusal, IsSizeRefusal};
+ghost use Rattle.bson_doc.specs.Refusals.{IsLengthRefusal};
 ghost use Rattle.bson_doc.specs.Unwritable.{IsUnwritable};
 ghost use Rattle.bson_doc.specs.Values.{element_bytes, value_bytes};
 
@@ -21,17 +22,14 @@ use crate::unwritable::{check_cstring, check_value};
 use bson_elem::MAX_LEN;
 
 /// Appends the name and the value of the last pair behind its type byte, and ends the document.
-fn write_last(name: &str, value: &Bson, out: &mut Vec<u8>) -> Result<(), DocRefusal>
+fn write_last(name: &str, value: &Bson, out: &mut Vec<u8>) -> Option<()>
     requires begun { 4 ≤ vec_len out.old }
     ensures added { let pair = cstring name.now ++ value_bytes (value_of value.now) in
-        OnOk result (out.new.items ≡ spelling.document (drop 4 out.old.items ++ pair)) }
+        OnSome result (out.new.items ≡ spelling.document (drop 4 out.old.items ++ pair)) }
     ensures within { let pair = cstring name.now ++ value_bytes (value_of value.now) in
-        OnOk result (length (spelling.document (drop 4 out.old.items ++ pair)) ≤ MAX_LEN) }
-    ensures formed { OnOk result (IsFormedValue (value_of value.now)) }
-    ensures refused { let pair = cstring name.now ++ value_bytes (value_of value.now) in
-        let len = length (spelling.document (drop 4 out.old.items ++ pair)) in
-        IfErr result (λ e. IsSizeRefusal MAX_LEN len e) }
-    ensures kept { OnErr result (StartsWith out.new.items out.old.items) }
+        OnSome result (length (spelling.document (drop 4 out.old.items ++ pair)) ≤ MAX_LEN) }
+    ensures formed { OnSome result (IsFormedValue (value_of value.now)) }
+    ensures kept { IfNone result (StartsWith out.new.items out.old.items) }
 {
     write_cstring(name, out)?;
     write_value(value, out)?;
@@ -65,10 +63,12 @@ pub(crate) fn append_pair(name: &str, value: &Bson, bytes: &mut Vec<u8>) -> Resu
     check_value(value, 1)?;
     let end = bytes.len() - 1;
     bytes[end] = value.kind().byte();
-    if let Err(_) = write_last(name, value, bytes) {
-        bytes.truncate(end + 1);
-        bytes[end] = 0;
-        return Err(refusal_of_pair(name, value, end + 1));
+    match write_last(name, value, bytes) {
+        Some(()) => Ok(()),
+        None => {
+            bytes.truncate(end + 1);
+            bytes[end] = 0;
+            Err(refusal_of_pair(name, value, end + 1))
+        }
     }
-    Ok(())
 }

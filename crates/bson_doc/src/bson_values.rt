@@ -1,6 +1,11 @@
 //! Values that own what they hold.
 
-ghost use Rattle.std.specs.Prelude.{◌≡◌, IfOk};
+ghost use Rattle.std.specs.Prelude.{◌≡◌, IfOk, string_bytes};
+ghost use Rattle.bson_elem.specs.{regex_value, with_code};
+ghost use Rattle.bson_elem.specs.declared.kinds.Kind.TheVariants as kinds;
+ghost use Rattle.bson_raw.specs.{document_value, leaf_value};
+ghost use Rattle.bson_doc.specs.Bson.{value_of};
+ghost use Rattle.bson_doc.specs.Document.{tree_of};
 
 use crate::arrays::Array;
 use crate::documents::Document;
@@ -41,8 +46,27 @@ pub enum Bson {
     MaxKey,
 }
 
+/// Returns the code and scope of a copy of this code.
+fn with_code(code: &String, scope: Document) -> Result<Bson, AllocError>
+    ensures { IfOk result (λ value. value_of value
+        ≡ document_value kinds.CodeWithScope (with_code (string_bytes code.now)) (tree_of scope)) }
+{
+    let code = code.clone()?;
+    Ok(Bson::CodeWithScope { code, scope })
+}
+
+/// Returns the regular expression of a copy of these options.
+fn with_options(pattern: String, options: &String) -> Result<Bson, AllocError>
+    ensures { IfOk result (λ value. value_of value
+        ≡ leaf_value kinds.Regex (regex_value (string_bytes pattern) (string_bytes options.now))) }
+{
+    let options = options.clone()?;
+    Ok(Bson::Regex { pattern, options })
+}
+
 impl Bson {
     ghost use Rattle.bson_doc.specs.Bson.{value_of};
+    ghost use Rattle.bson_doc.specs.Leaves.{IsOwnedLeaf};
 
     /// Returns a copy of the value.
     ///
@@ -53,45 +77,49 @@ impl Bson {
     pub fn try_clone(&self) -> Result<Bson, AllocError>
         ensures { IfOk result (λ copy. value_of copy ≡ value_of self.now) }
     {
-        let copy = match self {
-            Bson::Double(bytes) => Bson::Double(*bytes),
-            Bson::String(text) => Bson::String(text.clone()?),
-            Bson::Document(document) => Bson::Document(document.try_clone()?),
-            Bson::Array(array) => Bson::Array(array.try_clone()?),
-            Bson::Binary { subtype, bytes } => Bson::Binary {
+        match self {
+            Bson::Document(document) => Ok(Bson::Document(document.try_clone()?)),
+            Bson::Array(array) => Ok(Bson::Array(array.try_clone()?)),
+            Bson::CodeWithScope { code, scope } => with_code(code, scope.try_clone()?),
+            leaf => leaf.try_clone_leaf(),
+        }
+    }
+
+    /// Returns a copy of a value that holds no document.
+    fn try_clone_leaf(&self) -> Result<Bson, AllocError>
+        requires { IsOwnedLeaf self.now }
+        ensures { IfOk result (λ copy. value_of copy ≡ value_of self.now) }
+    {
+        match self {
+            Bson::Double(bytes) => Ok(Bson::Double(*bytes)),
+            Bson::String(text) => Ok(Bson::String(text.clone()?)),
+            Bson::Binary { subtype, bytes } => Ok(Bson::Binary {
                 subtype: *subtype,
                 bytes: bytes.clone()?,
-            },
-            Bson::Undefined => Bson::Undefined,
-            Bson::ObjectId(bytes) => Bson::ObjectId(*bytes),
-            Bson::Boolean(truth) => Bson::Boolean(*truth),
-            Bson::DateTime(millis) => Bson::DateTime(*millis),
-            Bson::Null => Bson::Null,
-            Bson::Regex { pattern, options } => Bson::Regex {
-                pattern: pattern.clone()?,
-                options: options.clone()?,
-            },
-            Bson::DbPointer { namespace, id } => Bson::DbPointer {
+            }),
+            Bson::Undefined => Ok(Bson::Undefined),
+            Bson::ObjectId(bytes) => Ok(Bson::ObjectId(*bytes)),
+            Bson::Boolean(truth) => Ok(Bson::Boolean(*truth)),
+            Bson::DateTime(millis) => Ok(Bson::DateTime(*millis)),
+            Bson::Null => Ok(Bson::Null),
+            Bson::Regex { pattern, options } => with_options(pattern.clone()?, options),
+            Bson::DbPointer { namespace, id } => Ok(Bson::DbPointer {
                 namespace: namespace.clone()?,
                 id: *id,
-            },
-            Bson::Code(text) => Bson::Code(text.clone()?),
-            Bson::Symbol(text) => Bson::Symbol(text.clone()?),
-            Bson::CodeWithScope { code, scope } => Bson::CodeWithScope {
-                code: code.clone()?,
-                scope: scope.try_clone()?,
-            },
-            Bson::Int32(n) => Bson::Int32(*n),
-            Bson::Timestamp { increment, seconds } => Bson::Timestamp {
+            }),
+            Bson::Code(text) => Ok(Bson::Code(text.clone()?)),
+            Bson::Symbol(text) => Ok(Bson::Symbol(text.clone()?)),
+            Bson::Int32(n) => Ok(Bson::Int32(*n)),
+            Bson::Timestamp { increment, seconds } => Ok(Bson::Timestamp {
                 increment: *increment,
                 seconds: *seconds,
-            },
-            Bson::Int64(n) => Bson::Int64(*n),
-            Bson::Decimal128(bytes) => Bson::Decimal128(*bytes),
-            Bson::MinKey => Bson::MinKey,
-            Bson::MaxKey => Bson::MaxKey,
-        };
-        Ok(copy)
+            }),
+            Bson::Int64(n) => Ok(Bson::Int64(*n)),
+            Bson::Decimal128(bytes) => Ok(Bson::Decimal128(*bytes)),
+            Bson::MinKey => Ok(Bson::MinKey),
+            Bson::MaxKey => Ok(Bson::MaxKey),
+            Bson::Document(_) | Bson::Array(_) | Bson::CodeWithScope { .. } => unreachable!(),
+        }
     }
 }
 

@@ -1,6 +1,6 @@
 //! The canonical form of a document, in which the names of each array are "0", "1" and so on.
 
-ghost use Rattle.std.specs.Prelude.{◌≡◌, ◌≤◌, ◌↔◌, ◌⊎◌, false, length, IsTrue, IfOk, IfErr};
+ghost use Rattle.std.specs.Prelude.{◌≡◌, ◌≤◌, ◌↔◌, ◌⊎◌, false, length, IsTrue, IfErr, IfOk, IfSome};
 ghost use Rattle.bson_elem.specs.{Spells, Tree};
 ghost use Rattle.bson_raw.specs.{document_bytes, is_plain};
 ghost use Rattle.bson_doc.specs.Plain.{plain, canonical_len};
@@ -28,18 +28,16 @@ pub fn is_canonical(document: RawDocument<'_>) -> bool
 }
 
 /// Writes the canonical form, and returns its bytes, if they are no more than `limit`.
-fn written_bytes(
-    alloc: Global,
-    document: RawDocument<'_>,
-    limit: usize,
-) -> Result<Vec<u8>, DocRefusal>
+fn written_bytes(alloc: Global, document: RawDocument<'_>, limit: usize) -> Option<Vec<u8>>
     requires { limit ≤ MAX_LEN }
     ensures { (t : Tree) → Spells t (document_bytes document.entry)
-        → IfOk result (λ bytes. Spells (plain t) bytes.items × (length bytes.items ≤ limit)) }
+        → IfSome result (λ bytes. Spells (plain t) bytes.items × (length bytes.items ≤ limit)) }
 {
-    let mut out = Vec::with_capacity(alloc, document.as_bytes().len())?;
+    let Ok(mut out) = Vec::with_capacity(alloc, document.as_bytes().len()) else {
+        return None;
+    };
     write_document(document, false, limit, &mut out)?;
-    Ok(out)
+    Some(out)
 }
 
 /// Like `canonical_bytes`, but writes every document anew.
@@ -55,8 +53,8 @@ fn renumbered_bytes(
         → IfErr result (λ e. IsLengthRefusal limit (canonical_len t) e) }
 {
     match written_bytes(alloc, document, limit) {
-        Ok(bytes) => Ok(bytes),
-        Err(_) => Err(refusal_of(room_after_document(document, false, limit))),
+        Some(bytes) => Ok(bytes),
+        None => Err(refusal_of(room_after_document(document, false, limit))),
     }
 }
 

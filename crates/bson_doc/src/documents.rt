@@ -1,8 +1,9 @@
 //! Documents that own their names and values.
 
-ghost use Rattle.std.specs.Prelude.{◌≡◌, ◌↔◌, [], length, map, option_map, string_bytes, None};
-ghost use Rattle.std.specs.Prelude.{IfOk, IfErr, IsOk, IsSome, IsTrue, OnErr, OnOk};
-ghost use Rattle.std.specs.List.{IsDistinct};
+ghost use Rattle.std.specs.Prelude.{◌≡◌, ◌↔◌, ◌<◌, ◌++◌, ◌∷◌, [], length, map, option_map, None};
+ghost use Rattle.std.specs.Prelude.{IfOk, IfErr, IsOk, IsSome, IsTrue, OnErr, OnOk, false};
+ghost use Rattle.std.specs.Prelude.{string_bytes, vec_capacity, vec_len};
+ghost use Rattle.std.specs.List.{IsDistinct, list_any};
 ghost use Rattle.std.specs.Str.{bytes_eq};
 
 use crate::bson_values::Bson;
@@ -43,6 +44,50 @@ impl Model for Document {
     ghost use Rattle.bson_doc.specs.Sizes.{document_deeper};
 
     ghost size_decreases = { λ d h. document_deeper d.names d.values.items h };
+}
+
+/// Makes room for a value, and appends its name, which isn't there.
+fn push_name(
+    name: String,
+    names: &mut NameList,
+    values: &mut Vec<Bson>,
+) -> Result<(), AllocFailed<String>>
+    requires { list_any (λ k. bytes_eq (string_bytes name) (string_bytes k)) names.old ≡ false }
+    ensures appended { OnOk result (names.new ≡ names.old ++ name ∷ []) }
+    ensures room { OnOk result (vec_len values.new < vec_capacity values.new) }
+    ensures same { OnErr result (names.new ≡ names.old) }
+    ensures values { values.new.items ≡ values.old.items }
+    ensures back { IfErr result (λ e. e.value ≡ name) }
+{
+    if values.try_reserve(1).is_err() {
+        return Err(AllocFailed { value: name });
+    }
+    names.append(name)
+}
+
+/// Appends a name, which isn't there, and its value. Both are unchanged if memory is refused.
+fn push_pair(
+    name: String,
+    value: Bson,
+    names: &mut NameList,
+    values: &mut Vec<Bson>,
+) -> Result<(), AllocFailed<(String, Bson)>>
+    requires { list_any (λ k. bytes_eq (string_bytes name) (string_bytes k)) names.old ≡ false }
+    ensures name { OnOk result (names.new ≡ names.old ++ name ∷ []) }
+    ensures value { OnOk result (values.new.items ≡ values.old.items ++ value ∷ []) }
+    ensures same_names { OnErr result (names.new ≡ names.old) }
+    ensures same_values { OnErr result (values.new.items ≡ values.old.items) }
+    ensures back { IfErr result (λ e. e.value ≡ (name, value)) }
+{
+    if let Err(e) = push_name(name, names, values) {
+        return Err(AllocFailed {
+            value: (e.value, value),
+        });
+    }
+    match values.push(value) {
+        Ok(()) => Ok(()),
+        Err(_) => unreachable!(),
+    }
 }
 
 impl Document {
@@ -128,23 +173,8 @@ impl Document {
                 Ok(Some(before))
             }
             None => {
-                let Ok(()) = self.values.try_reserve(1) else {
-                    return Err(AllocFailed {
-                        value: (name, value),
-                    });
-                };
-                match self.names.append(name) {
-                    Ok(()) => {}
-                    Err(e) => {
-                        return Err(AllocFailed {
-                            value: (e.value, value),
-                        });
-                    }
-                }
-                match self.values.push(value) {
-                    Ok(()) => Ok(None),
-                    Err(_) => unreachable!(),
-                }
+                push_pair(name, value, &mut self.names, &mut self.values)?;
+                Ok(None)
             }
         }
     }

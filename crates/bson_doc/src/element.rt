@@ -1,29 +1,25 @@
 //! Appending the canonical form of a borrowed document to bytes.
 
-ghost use Rattle.std.specs.Prelude.{◌≡◌, ◌≤◌, ◌++◌, ◌∷◌, ℕ, length, OnOk, IfErr, false};
+ghost use Rattle.std.specs.Prelude.{◌≡◌, ◌≤◌, ◌++◌, length, OnSome, false};
 ghost use Rattle.bson_elem.specs.{Spells, Tree, elements, inner_bytes, with_code};
 ghost use Rattle.bson_elem.specs.Spelling as spelling;
 ghost use Rattle.bson_raw.specs.{Shows, TreeValue, document_bytes, held_len, name_at};
 ghost use Rattle.bson_doc.specs.Plain.{plain_from};
 ghost use Rattle.bson_doc.specs.Values.{plain_value, value_bytes, element_bytes};
-ghost use Rattle.bson_doc.specs.Refusals.{IsSizeRefusal};
 
 use crate::bytes::{begin, finish, put_len, write_string};
 use crate::leaf::write_leaf;
-use crate::name::write_name;
-use crate::refusal::DocRefusal;
+use crate::name::write_head;
 use bson_elem::MAX_LEN;
 use bson_raw::{RawBson, RawDocument};
 
-/// Appends a value, with canonical names in what it holds. Returns `TooLarge` if a container in it
+/// Appends a value, with canonical names in what it holds. Returns `None` if a container in it
 /// has more than `limit` bytes.
 #[cycle(write)]
-fn write_value(value: RawBson<'_>, limit: usize, out: &mut Vec<u8>) -> Result<(), DocRefusal>
+fn write_value(value: RawBson<'_>, limit: usize, out: &mut Vec<u8>) -> Option<()>
     requires { limit ≤ MAX_LEN }
     ensures added { (v : TreeValue) → Shows value.entry v
-        → OnOk result (out.new.items ≡ out.old.items ++ value_bytes (plain_value v)) }
-    ensures refused { (v : TreeValue) → Shows value.entry v
-        → IfErr result (λ e. IsSizeRefusal limit (length (value_bytes (plain_value v))) e) }
+        → OnSome result (out.new.items ≡ out.old.items ++ value_bytes (plain_value v)) }
 {
     match value {
         RawBson::Document(document) => write_document(document, false, limit, out),
@@ -33,26 +29,17 @@ fn write_value(value: RawBson<'_>, limit: usize, out: &mut Vec<u8>) -> Result<()
     }
 }
 
-/// Appends a code and its scope, with canonical names in the scope. Returns `TooLarge` if they have
+/// Appends a code and its scope, with canonical names in the scope. Returns `None` if they have
 /// more than `limit` bytes.
 #[cycle(write)]
-fn write_scope(
-    code: &str,
-    scope: RawDocument<'_>,
-    limit: usize,
-    out: &mut Vec<u8>,
-) -> Result<(), DocRefusal>
+fn write_scope(code: &str, scope: RawDocument<'_>, limit: usize, out: &mut Vec<u8>) -> Option<()>
     requires { limit ≤ MAX_LEN }
     ensures added { (t : Tree) → Spells t (document_bytes scope.entry)
-        → OnOk
+        → OnSome
         result
         (out.new.items
         ≡ out.old.items
         ++ inner_bytes (with_code code.now) (elements (plain_from false 0 t))) }
-    ensures refused { (t : Tree) → Spells t (document_bytes scope.entry)
-        → IfErr result
-        (λ e. IsSizeRefusal limit
-        (length (inner_bytes (with_code code.now) (elements (plain_from false 0 t)))) e) }
 {
     let start = out.len();
     begin(out)?;
@@ -61,7 +48,7 @@ fn write_scope(
     put_len(start, limit, out)
 }
 
-/// Appends the pair at `index` of a container, with canonical names. Returns `TooLarge` if a
+/// Appends the pair at `index` of a container, with canonical names. Returns `None` if a
 /// container in it has more than `limit` bytes.
 #[cycle(write)]
 fn write_element(
@@ -71,43 +58,34 @@ fn write_element(
     index: usize,
     limit: usize,
     out: &mut Vec<u8>,
-) -> Result<(), DocRefusal>
+) -> Option<()>
     requires { limit ≤ MAX_LEN }
     ensures added { (v : TreeValue) → Shows value.entry v
-        → OnOk result
+        → OnSome result
         (out.new.items
         ≡ out.old.items ++ element_bytes (name_at in_array index name.now) (plain_value v)) }
-    ensures refused { (v : TreeValue) → Shows value.entry v
-        → IfErr result
-        (λ e. IsSizeRefusal limit
-        (length (element_bytes (name_at in_array index name.now) (plain_value v))) e) }
 {
-    out.push(value.kind().byte())?;
-    write_name(name, in_array, index, out)?;
+    write_head(value.kind(), name, in_array, index, out)?;
     write_value(value, limit, out)
 }
 
 /// Appends the document with canonical names at every depth; in an array these are "0", "1" and so
-/// on. Returns `TooLarge` if it has more than `limit` bytes.
+/// on. Returns `None` if it has more than `limit` bytes.
 #[cycle(write)]
 pub(crate) fn write_document(
     document: RawDocument<'_>,
     in_array: bool,
     limit: usize,
     out: &mut Vec<u8>,
-) -> Result<(), DocRefusal>
+) -> Option<()>
     requires { limit ≤ MAX_LEN }
     ensures added { (t : Tree) → Spells t (document_bytes document.entry)
-        → OnOk
+        → OnSome
         result
         (out.new.items
         ≡ out.old.items ++ spelling.document (elements (plain_from in_array 0 t))) }
     ensures within { (t : Tree) → Spells t (document_bytes document.entry)
-        → OnOk result (length (spelling.document (elements (plain_from in_array 0 t))) ≤ limit) }
-    ensures refused { (t : Tree) → Spells t (document_bytes document.entry)
-        → IfErr result
-        (λ e. IsSizeRefusal limit
-        (length (spelling.document (elements (plain_from in_array 0 t)))) e) }
+        → OnSome result (length (spelling.document (elements (plain_from in_array 0 t))) ≤ limit) }
 {
     let start = out.len();
     begin(out)?;

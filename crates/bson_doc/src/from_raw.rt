@@ -3,12 +3,15 @@
 ghost use Rattle.std.specs.Prelude.{◌≡◌, ◌+◌, ◌<◌, ◌^◌, [], None, false, true, length, ℕ, List};
 ghost use Rattle.std.specs.Prelude.{map, string_bytes};
 ghost use Rattle.std.specs.Prelude.{IfOk, IfErr, MatchResult, OnOk};
-ghost use Rattle.bson_elem.specs.{Spells, Tree};
-ghost use Rattle.bson_raw.specs.{Shows, TreeValue, array_bytes, document_bytes, held_len};
+ghost use Rattle.bson_elem.specs.{Spells, Tree, regex_value, with_code};
+ghost use Rattle.bson_elem.specs.declared.kinds.Kind.TheVariants as kinds;
+ghost use Rattle.bson_raw.specs.{Shows, TreeValue, array_bytes, document_bytes, document_value};
+ghost use Rattle.bson_raw.specs.{held_len, leaf_value};
 ghost use Rattle.bson_doc.specs.declared.refusal.DocRefusal.TheVariants.{OutOfMemory};
 ghost use Rattle.bson_doc.specs.Array.{array_tree};
 ghost use Rattle.bson_doc.specs.Bson.{value_of};
 ghost use Rattle.bson_doc.specs.Document.{paired, tree_of};
+ghost use Rattle.bson_doc.specs.Leaves.{IsLeaf};
 ghost use Rattle.bson_doc.specs.Plain.{plain, plain_from};
 ghost use Rattle.bson_doc.specs.Repeats.{repeat_depth, repeat_in, repeat_in_value, IsRepeat};
 ghost use Rattle.bson_doc.specs.Values.{plain_value};
@@ -19,7 +22,51 @@ use crate::documents::Document;
 use crate::name_list::NameList;
 use crate::refusal::DocRefusal;
 use bson_raw::{RawArray, RawBson, RawDocument};
-use std::alloc::Global;
+use std::alloc::{AllocError, Global};
+
+/// Returns the owned pattern and options.
+fn read_regex(alloc: Global, pattern: &str, options: &str) -> Result<Bson, AllocError>
+    ensures { IfOk result (λ b.
+        value_of b ≡ leaf_value kinds.Regex (regex_value pattern.now options.now)) }
+{
+    let pattern = String::from_str(alloc, pattern)?;
+    let options = String::from_str(alloc, options)?;
+    Ok(Bson::Regex { pattern, options })
+}
+
+/// Returns the owned value of one that holds no document.
+fn read_leaf(alloc: Global, leaf: RawBson<'_>) -> Result<Bson, AllocError>
+    requires { IsLeaf leaf }
+    ensures { (v : TreeValue) → Shows leaf.entry v → IfOk result (λ b. value_of b ≡ v) }
+{
+    match leaf {
+        RawBson::Double(bytes) => Ok(Bson::Double(bytes)),
+        RawBson::String(text) => Ok(Bson::String(String::from_str(alloc, text)?)),
+        RawBson::Binary { subtype, bytes } => Ok(Bson::Binary {
+            subtype,
+            bytes: Vec::from_slice(alloc, bytes)?,
+        }),
+        RawBson::Undefined => Ok(Bson::Undefined),
+        RawBson::ObjectId(bytes) => Ok(Bson::ObjectId(bytes)),
+        RawBson::Boolean(truth) => Ok(Bson::Boolean(truth)),
+        RawBson::DateTime(millis) => Ok(Bson::DateTime(millis)),
+        RawBson::Null => Ok(Bson::Null),
+        RawBson::Regex { pattern, options } => read_regex(alloc, pattern, options),
+        RawBson::DbPointer { namespace, id } => Ok(Bson::DbPointer {
+            namespace: String::from_str(alloc, namespace)?,
+            id,
+        }),
+        RawBson::Code(text) => Ok(Bson::Code(String::from_str(alloc, text)?)),
+        RawBson::Symbol(text) => Ok(Bson::Symbol(String::from_str(alloc, text)?)),
+        RawBson::Int32(n) => Ok(Bson::Int32(n)),
+        RawBson::Timestamp { increment, seconds } => Ok(Bson::Timestamp { increment, seconds }),
+        RawBson::Int64(n) => Ok(Bson::Int64(n)),
+        RawBson::Decimal128(bytes) => Ok(Bson::Decimal128(bytes)),
+        RawBson::MinKey => Ok(Bson::MinKey),
+        RawBson::MaxKey => Ok(Bson::MaxKey),
+        RawBson::Document(_) | RawBson::Array(_) | RawBson::CodeWithScope { .. } => unreachable!(),
+    }
+}
 
 /// Returns the owned value of one that stands in a container of depth `depth`.
 #[cycle(read)]
@@ -32,42 +79,35 @@ fn read_value(alloc: Global, value: RawBson<'_>, depth: u32) -> Result<Bson, Doc
     ensures refused { (v : TreeValue) → Shows value.entry v
         → IfErr result (λ e. IsRepeat (repeat_in_value depth v) e) }
 {
-    let owned = match value {
-        RawBson::Double(bytes) => Bson::Double(bytes),
-        RawBson::String(text) => Bson::String(String::from_str(alloc, text)?),
-        RawBson::Document(document) => Bson::Document(read_document(alloc, document, depth + 1)?),
-        RawBson::Array(array) => Bson::Array(read_array(alloc, array, depth + 1)?),
-        RawBson::Binary { subtype, bytes } => Bson::Binary {
-            subtype,
-            bytes: Vec::from_slice(alloc, bytes)?,
-        },
-        RawBson::Undefined => Bson::Undefined,
-        RawBson::ObjectId(bytes) => Bson::ObjectId(bytes),
-        RawBson::Boolean(truth) => Bson::Boolean(truth),
-        RawBson::DateTime(millis) => Bson::DateTime(millis),
-        RawBson::Null => Bson::Null,
-        RawBson::Regex { pattern, options } => Bson::Regex {
-            pattern: String::from_str(alloc, pattern)?,
-            options: String::from_str(alloc, options)?,
-        },
-        RawBson::DbPointer { namespace, id } => Bson::DbPointer {
-            namespace: String::from_str(alloc, namespace)?,
-            id,
-        },
-        RawBson::Code(text) => Bson::Code(String::from_str(alloc, text)?),
-        RawBson::Symbol(text) => Bson::Symbol(String::from_str(alloc, text)?),
-        RawBson::CodeWithScope { code, scope } => Bson::CodeWithScope {
-            code: String::from_str(alloc, code)?,
-            scope: read_document(alloc, scope, depth + 1)?,
-        },
-        RawBson::Int32(n) => Bson::Int32(n),
-        RawBson::Timestamp { increment, seconds } => Bson::Timestamp { increment, seconds },
-        RawBson::Int64(n) => Bson::Int64(n),
-        RawBson::Decimal128(bytes) => Bson::Decimal128(bytes),
-        RawBson::MinKey => Bson::MinKey,
-        RawBson::MaxKey => Bson::MaxKey,
-    };
-    Ok(owned)
+    match value {
+        RawBson::Document(document) => {
+            Ok(Bson::Document(read_document(alloc, document, depth + 1)?))
+        }
+        RawBson::Array(array) => Ok(Bson::Array(read_array(alloc, array, depth + 1)?)),
+        RawBson::CodeWithScope { code, scope } => read_scope(alloc, code, scope, depth + 1),
+        leaf => Ok(read_leaf(alloc, leaf)?),
+    }
+}
+
+/// Returns the owned code and its owned scope, which has depth `depth`.
+#[cycle(read)]
+fn read_scope(
+    alloc: Global,
+    code: &str,
+    scope: RawDocument<'_>,
+    depth: u32,
+) -> Result<Bson, DocRefusal>
+    requires { depth + length (document_bytes scope) < 2 ^ 32 }
+    ensures read { (t : Tree) → Spells t (document_bytes scope.entry) → IfOk result (λ b.
+        value_of b ≡ document_value kinds.CodeWithScope (with_code code.now) (plain t)) }
+    ensures unique { (t : Tree) → Spells t (document_bytes scope.entry)
+        → OnOk result (repeat_in false depth [] t ≡ None) }
+    ensures refused { (t : Tree) → Spells t (document_bytes scope.entry)
+        → IfErr result (λ e. IsRepeat (repeat_in false depth [] t) e) }
+{
+    let code = String::from_str(alloc, code)?;
+    let scope = read_document(alloc, scope, depth)?;
+    Ok(Bson::CodeWithScope { code, scope })
 }
 
 /// Returns the owned array of one of depth `depth`. Its names are not kept.

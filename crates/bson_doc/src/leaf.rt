@@ -1,11 +1,10 @@
 //! Values that hold no document: their bytes, and how much room a limit leaves behind these.
 
-ghost use Rattle.std.specs.Prelude.{◌≡◌, ◌++◌, length, OnOk, OnErr, IfErr};
+ghost use Rattle.std.specs.Prelude.{◌≡◌, ◌++◌, length, IfNone, OnSome};
 ghost use Rattle.std.specs.Io.{StartsWith};
 ghost use Rattle.bson_elem.specs.{binary};
 ghost use Rattle.bson_raw.specs.{Shows, TreeValue};
 ghost use Rattle.bson_doc.specs.Leaves.{IsLeaf};
-ghost use Rattle.bson_doc.specs.Refusals.{IsSizeRefusal};
 ghost use Rattle.bson_doc.specs.Room.{IsRoomLeft};
 ghost use Rattle.bson_doc.specs.Values.{value_bytes};
 
@@ -13,9 +12,7 @@ use crate::bytes::{
     write_binary, write_bytes, write_dbpointer, write_int32, write_int64, write_regex,
     write_string, write_timestamp,
 };
-use crate::refusal::DocRefusal;
 use crate::room::room_after;
-use bson_elem::MAX_LEN;
 use bson_raw::RawBson;
 
 /// Returns what is left of `room` behind the bytes of a binary.
@@ -57,16 +54,14 @@ pub(crate) fn room_after_leaf(leaf: RawBson<'_>, room: usize) -> Option<usize>
 }
 
 /// Appends a value that holds no document.
-pub(crate) fn write_leaf(leaf: RawBson<'_>, out: &mut Vec<u8>) -> Result<(), DocRefusal>
+pub(crate) fn write_leaf(leaf: RawBson<'_>, out: &mut Vec<u8>) -> Option<()>
     requires { IsLeaf leaf }
     ensures added { (v : TreeValue) → Shows leaf.entry v
-        → OnOk result (out.new.items ≡ out.old.items ++ value_bytes v) }
-    ensures refused { (v : TreeValue) → Shows leaf.entry v
-        → IfErr result (λ e. IsSizeRefusal MAX_LEN (length (value_bytes v)) e) }
-    ensures kept { OnErr result (StartsWith out.new.items out.old.items) }
+        → OnSome result (out.new.items ≡ out.old.items ++ value_bytes v) }
+    ensures kept { IfNone result (StartsWith out.new.items out.old.items) }
 {
     match leaf {
-        RawBson::Undefined | RawBson::Null | RawBson::MinKey | RawBson::MaxKey => Ok(()),
+        RawBson::Undefined | RawBson::Null | RawBson::MinKey | RawBson::MaxKey => Some(()),
         RawBson::Boolean(truth) => write_bytes(&[truth as u8], out),
         RawBson::Int32(n) => write_int32(n, out),
         RawBson::Int64(n) | RawBson::DateTime(n) => write_int64(n, out),

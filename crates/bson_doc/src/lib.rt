@@ -14,9 +14,9 @@
 //! `dump_to` and `dump_elements` of the crate `bson_text`, which write the text of a borrowed
 //! document, are given on.
 //!
-//! Stands on bson_raw and bson_text. bson_json_read, byte_views, byte_builder, doc_query, doc_update,
-//! test_store, test_script, engines, proxy and replay stand on it. Read first: `documents`,
-//! `from_raw` and `to_raw`, and then `canon`.
+//! Stands on bson_raw and bson_text. bson_json_read, byte_views, byte_builder, doc_query,
+//! doc_stages, doc_update, command_parts, test_store, test_script, file_commands, loopback, proxy
+//! and replay stand on it. Read first: `documents`, `from_raw` and `to_raw`, and then `canon`.
 #![tactic(auto)]
 
 mod append;

@@ -1,17 +1,14 @@
 //! Writing owned documents to bytes.
 
-ghost use Rattle.std.specs.Prelude.{◌≡◌, ◌++◌, ◌∷◌, IsUtf8, IfErr, IfOk, OnErr, OnOk, None, Some};
-ghost use Rattle.std.specs.Prelude.{length, ◌≤◌};
+ghost use Rattle.std.specs.Prelude.{◌≡◌, ◌≤◌, ◌++◌, IfErr, IfNone, IfOk, OnOk, OnSome};
+ghost use Rattle.std.specs.Prelude.{None, length};
 ghost use Rattle.std.specs.Io.{StartsWith};
-ghost use Rattle.bson_elem.specs.{Spells, byte_of, cstring, elements};
-ghost use Rattle.bson_elem.specs.{inner_bytes, with_code};
+ghost use Rattle.bson_elem.specs.{Spells, elements, inner_bytes, with_code};
 ghost use Rattle.bson_elem.specs.Spelling as spelling;
 ghost use Rattle.bson_doc.specs.Array.{array_tree};
 ghost use Rattle.bson_doc.specs.Bson.{value_of};
 ghost use Rattle.bson_doc.specs.Document.{tree_of};
 ghost use Rattle.bson_doc.specs.Formed.{IsFormed, IsFormedValue};
-ghost use Rattle.bson_doc.specs.Refusals.{IsSizeRefusal};
-ghost use Rattle.bson_raw.specs.{name_at};
 ghost use Rattle.bson_doc.specs.Plain.{plain};
 ghost use Rattle.bson_doc.specs.RawDocumentBuf.{buf_bytes};
 ghost use Rattle.bson_doc.specs.Repeats.{repeat_depth};
@@ -25,44 +22,19 @@ use crate::bytes::{begin, finish, put_len, write_string};
 use crate::documents::Document;
 use crate::leaf::write_leaf;
 use crate::lent::Lent;
-use crate::name::write_name;
+use crate::name::write_head;
 use crate::refusal::DocRefusal;
 use crate::room::{refusal_of, room_after_document};
 use crate::unwritable::check_document;
-use bson_elem::{Kind, MAX_LEN};
-
-/// Appends the type byte of the pair at `index` of a container, and its name, which in an array is
-/// its index.
-fn write_head(
-    kind: Kind,
-    name: &str,
-    in_array: bool,
-    index: usize,
-    out: &mut Vec<u8>,
-) -> Result<(), DocRefusal>
-    ensures added { OnOk
-        result
-        (out.new.items
-        ≡ out.old.items ++ (byte_of kind ∷ cstring (name_at in_array index name.now))) }
-    ensures text { OnOk result (IsUtf8 (name_at in_array index name.now)) }
-    ensures refused { IfErr result
-        (λ e. IsSizeRefusal MAX_LEN
-        (length (byte_of kind ∷ cstring (name_at in_array index name.now))) e) }
-    ensures kept { OnErr result (StartsWith out.new.items out.old.items) }
-{
-    out.push(kind.byte())?;
-    write_name(name, in_array, index, out)
-}
+use bson_elem::MAX_LEN;
 
 /// Appends a value.
 #[cycle(write)]
-pub(crate) fn write_value(value: &Bson, out: &mut Vec<u8>) -> Result<(), DocRefusal>
-    ensures added { OnOk result
+pub(crate) fn write_value(value: &Bson, out: &mut Vec<u8>) -> Option<()>
+    ensures added { OnSome result
         (out.new.items ≡ out.old.items ++ value_bytes (value_of value.now)) }
-    ensures formed { OnOk result (IsFormedValue (value_of value.now)) }
-    ensures refused { IfErr result
-        (λ e. IsSizeRefusal MAX_LEN (length (value_bytes (value_of value.now))) e) }
-    ensures kept { OnErr result (StartsWith out.new.items out.old.items) }
+    ensures formed { OnSome result (IsFormedValue (value_of value.now)) }
+    ensures kept { IfNone result (StartsWith out.new.items out.old.items) }
 {
     match value.lend() {
         Lent::Document(document) => write_document(document, out),
@@ -74,15 +46,12 @@ pub(crate) fn write_value(value: &Bson, out: &mut Vec<u8>) -> Result<(), DocRefu
 
 /// Appends a code and its scope.
 #[cycle(write)]
-fn write_scope(code: &str, scope: &Document, out: &mut Vec<u8>) -> Result<(), DocRefusal>
-    ensures added { OnOk result
+fn write_scope(code: &str, scope: &Document, out: &mut Vec<u8>) -> Option<()>
+    ensures added { OnSome result
         (out.new.items
         ≡ out.old.items ++ inner_bytes (with_code code.now) (elements (tree_of scope.now))) }
-    ensures formed { OnOk result (IsFormed (tree_of scope.now)) }
-    ensures refused { IfErr result
-        (λ e. IsSizeRefusal MAX_LEN
-        (length (inner_bytes (with_code code.now) (elements (tree_of scope.now)))) e) }
-    ensures kept { OnErr result (StartsWith out.new.items out.old.items) }
+    ensures formed { OnSome result (IsFormed (tree_of scope.now)) }
+    ensures kept { IfNone result (StartsWith out.new.items out.old.items) }
 {
     let start = out.len();
     begin(out)?;
@@ -93,14 +62,11 @@ fn write_scope(code: &str, scope: &Document, out: &mut Vec<u8>) -> Result<(), Do
 
 /// Appends an array.
 #[cycle(write)]
-fn write_array(array: &Array, out: &mut Vec<u8>) -> Result<(), DocRefusal>
-    ensures added { OnOk result
+fn write_array(array: &Array, out: &mut Vec<u8>) -> Option<()>
+    ensures added { OnSome result
         (out.new.items ≡ out.old.items ++ spelling.document (elements (array_tree 0 array.now))) }
-    ensures formed { OnOk result (IsFormed (array_tree 0 array.now)) }
-    ensures refused { IfErr result
-        (λ e. IsSizeRefusal MAX_LEN (length (spelling.document (elements (array_tree 0 array.now))))
-        e) }
-    ensures kept { OnErr result (StartsWith out.new.items out.old.items) }
+    ensures formed { OnSome result (IsFormed (array_tree 0 array.now)) }
+    ensures kept { IfNone result (StartsWith out.new.items out.old.items) }
 {
     let start = out.len();
     begin(out)?;
@@ -113,17 +79,13 @@ fn write_array(array: &Array, out: &mut Vec<u8>) -> Result<(), DocRefusal>
 
 /// Appends a document.
 #[cycle(write)]
-pub(crate) fn write_document(document: &Document, out: &mut Vec<u8>) -> Result<(), DocRefusal>
-    ensures added { OnOk result
+pub(crate) fn write_document(document: &Document, out: &mut Vec<u8>) -> Option<()>
+    ensures added { OnSome result
         (out.new.items ≡ out.old.items ++ spelling.document (elements (tree_of document.now))) }
-    ensures within { OnOk result
+    ensures within { OnSome result
         (length (spelling.document (elements (tree_of document.now))) ≤ MAX_LEN) }
-    ensures formed { OnOk result (IsFormed (tree_of document.now)) }
-    ensures refused { IfErr
-        result
-        (λ e. IsSizeRefusal MAX_LEN
-        (length (spelling.document (elements (tree_of document.now)))) e) }
-    ensures kept { OnErr result (StartsWith out.new.items out.old.items) }
+    ensures formed { OnSome result (IsFormed (tree_of document.now)) }
+    ensures kept { IfNone result (StartsWith out.new.items out.old.items) }
 {
     let start = out.len();
     begin(out)?;
@@ -151,8 +113,8 @@ impl Document {
         check_document(self, 1)?;
         let mut out = Vec::new(self.allocator());
         match write_document(self, &mut out) {
-            Ok(()) => Ok(RawDocumentBuf::from_spelled(out)),
-            Err(_) => Err(refusal_of(room_after_document(self, MAX_LEN))),
+            Some(()) => Ok(RawDocumentBuf::from_spelled(out)),
+            None => Err(refusal_of(room_after_document(self, MAX_LEN))),
         }
     }
 }

@@ -8,5 +8,5 @@ pub returns : goal.returns
 returns c = λ t spelled.
     let counted : c.args.limit < 2 ^ 31 = omega (arith, c.requires) in
     spells_plain t c.args.document.bytes.now c.write_document.new.out.items c.args.limit counted spelled
-    (c.in_ok-write_document.ensures.added t spelled ∙ ap (λ (x : List ℕ). x ++ document (elements (plain t))) c.in_ok-out.ensures.items)
+    (c.in_ok-write_document.ensures.added t spelled ∙ ap (λ (x : List ℕ). x ++ document (elements (plain t))) c.in-Ok.ensures.items)
     (c.in_ok-write_document.ensures.within t spelled)

@@ -1,4 +1,4 @@
-use Rattle.std.proofs.Common.{◌≡◌, ◌+◌, ◌≤◌, ◌<◌, ◌++◌, ℕ, List, length, sym, ap, ◌∙◌, append_assoc, arith, vec_len, rules, subst, OnOk}
+use Rattle.std.proofs.Common.{◌≡◌, ◌+◌, ◌≤◌, ◌<◌, ◌++◌, ℕ, List, length, sym, ap, ◌∙◌, append_assoc, arith, vec_len, rules, subst, OnSome}
 use Rattle.std.proofs.lemmas.Grind.{not_there}
 use Rattle.bson_elem.specs.Trees.{Tree}
 use Rattle.bson_elem.specs.Kinds.{byte_of}
@@ -59,10 +59,12 @@ write_scope-put_len-requires-clause-begun t c =
     omega (arith, lt, more, still, l, k)) in
     omega (arith, no)
 
-pub write_element-returns-clause-added : goal.write_element-returns-clause-added
-write_element-returns-clause-added t c = λ v shown.
-    let kind : c.byte.result ≡ byte_of (value_kind (plain_value v)) = c.byte.ensures ∙ ap byte_of (c.kind.ensures ∙ kind_shown c.args.value v shown) in
-    let name : List ℕ = cstring (name_at c.args.in_array c.args.index c.args.name.now) in
-    subst (λ (x : List ℕ). OnOk c.write_value.result (c.write_value.new.out.items ≡ x))
-    (one_element c.args.out.now.items c.push.new.self.items c.write_name.new.out.items c.byte.result (byte_of (value_kind (plain_value v))) name (value_bytes (plain_value v)) kind c.in_ok-push.ensures.items c.in_ok-write_name.ensures.added)
-    (c.write_value.ensures.added v shown)
+pub write_element-returns : goal.write_element-returns
+write_element-returns t c = record {
+  added = λ v shown.
+      let kind : byte_of c.kind.result ≡ byte_of (value_kind (plain_value v)) = ap byte_of (c.kind.ensures ∙ kind_shown c.args.value v shown) in
+      let name : List ℕ = cstring (name_at c.args.in_array c.args.index c.args.name.now) in
+      subst (λ (x : List ℕ). OnSome c.write_value.result (c.write_value.new.out.items ≡ x))
+      (one_element c.args.out.now.items c.write_head.new.out.items (byte_of c.kind.result) (byte_of (value_kind (plain_value v))) name (value_bytes (plain_value v)) kind c.in_ok-write_head.ensures.added)
+      (c.write_value.ensures.added v shown);
+}

@@ -10,19 +10,22 @@ use Rattle.bson_doc.proofs.Reading.{DocumentRead, ArrayRead}
 use Rattle.bson_doc.proofs.from_raw.+read.Given as goal
 
 abbrev pub decreases-read_document : goal.decreases-read_document
-decreases-read_document l = 3 * length (document_bytes l.document) + 1
+decreases-read_document l = 4 * length (document_bytes l.document) + 1
 
 abbrev pub decreases-read_pairs : goal.decreases-read_pairs
-decreases-read_pairs l = 3 * length (document_bytes l.document)
+decreases-read_pairs l = 4 * length (document_bytes l.document)
 
 abbrev pub decreases-read_array : goal.decreases-read_array
-decreases-read_array l = 3 * length (array_bytes l.array) + 1
+decreases-read_array l = 4 * length (array_bytes l.array) + 1
 
 abbrev pub decreases-read_values : goal.decreases-read_values
-decreases-read_values l = 3 * length (array_bytes l.array)
+decreases-read_values l = 4 * length (array_bytes l.array)
 
 abbrev pub decreases-read_value : goal.decreases-read_value
-decreases-read_value l = 3 * held_len l.value + 2
+decreases-read_value l = 4 * held_len l.value + 3
+
+abbrev pub decreases-read_scope : goal.decreases-read_scope
+decreases-read_scope l = 4 * length (document_bytes l.scope) + 2
 
 abbrev pub invariant-read_values-loop-value : goal.invariant-read_values-loop-value
 invariant-read_values-loop-value l = record {

@@ -14,20 +14,20 @@ returns-in_err-check_document-clause-refused c =
 
 pub from_spelled-requires : goal.from_spelled-requires
 from_spelled-requires c =
-    let short : length (document (elements (tree_of c.args.self.now))) < 2 ^ 31 = omega (arith, c.in-Ok.ensures.within) in
+    let short : length (document (elements (tree_of c.args.self.now))) < 2 ^ 31 = omega (arith, c.in-Some.ensures.within) in
     ∣ (
       tree_of c.args.self.now,
-      spells_formed (tree_of c.args.self.now) c.write_document.new.out.items c.in_ok-check_document.ensures.reason c.in-Ok.ensures.formed
-          (c.in-Ok.ensures.added ∙ ap (λ (x : List ℕ). x ++ document (elements (tree_of c.args.self.now))) c.new-out.ensures.items) short,
+      spells_formed (tree_of c.args.self.now) c.write_document.new.out.items c.in_ok-check_document.ensures.reason c.in-Some.ensures.formed
+          (c.in-Some.ensures.added ∙ ap (λ (x : List ℕ). x ++ document (elements (tree_of c.args.self.now))) c.new-out.ensures.items) short,
     ) ∣₁
 
-pub returns-in-Ok-clause-written : goal.returns-in-Ok-clause-written
-returns-in-Ok-clause-written c =
-    let short : length (document (elements (tree_of c.args.self.now))) < 2 ^ 31 = omega (arith, c.in-Ok.ensures.within) in
-    spells_formed (tree_of c.args.self.now) _ c.in_ok-check_document.ensures.reason c.in-Ok.ensures.formed
-    (c.from_spelled.ensures ∙ c.in-Ok.ensures.added ∙ ap (λ (x : List ℕ). x ++ document (elements (tree_of c.args.self.now))) c.new-out.ensures.items) short
+pub returns-in-Some-clause-written : goal.returns-in-Some-clause-written
+returns-in-Some-clause-written c =
+    let short : length (document (elements (tree_of c.args.self.now))) < 2 ^ 31 = omega (arith, c.in-Some.ensures.within) in
+    spells_formed (tree_of c.args.self.now) _ c.in_ok-check_document.ensures.reason c.in-Some.ensures.formed
+    (c.from_spelled.ensures ∙ c.in-Some.ensures.added ∙ ap (λ (x : List ℕ). x ++ document (elements (tree_of c.args.self.now))) c.new-out.ensures.items) short
 
-pub returns-in-Err-clause-refused : goal.returns-in-Err-clause-refused
-returns-in-Err-clause-refused c =
+pub returns-in-None-clause-refused : goal.returns-in-None-clause-refused
+returns-in-None-clause-refused c =
     length_refused (tree_of c.args.self.now) MAX_LEN c.refusal_of.result refl c.in_ok-check_document.ensures.reason
     (c.refusal_of.ensures MAX_LEN (length (document (elements (tree_of c.args.self.now)))) c.room_after_document.ensures)
