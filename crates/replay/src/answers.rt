@@ -3,7 +3,7 @@
 ghost use Rattle.std.specs.Prelude.{◌<◌, IfSome, length};
 
 use crate::flags::{MORE_TO_COME, has_flag};
-use crate::pace::{is_past, later};
+use crate::pace::{earlier, is_past, later};
 use std::alloc::{AllocError, Global};
 use std::time::Instant;
 use wire_frames::RawFrame;
@@ -50,8 +50,22 @@ impl Answers {
     /// Returns the id of the request that an answer with this responseTo answers. Of several answers
     /// to one request, each but the first may have the id of the one before it there.
     fn request_of(&self, response_to: i32) -> i32 {
-        let follow = self.follows.iter().find(|follow| follow.id == response_to);
-        follow.map_or(response_to, |follow| follow.request)
+        for follow in &self.follows {
+            if follow.id == response_to {
+                return follow.request;
+            }
+        }
+        response_to
+    }
+
+    /// Forgets the answer to this request behind which another one comes, if there is one.
+    fn end_follow(&mut self, request: i32) {
+        for i in 0..self.follows.len() {
+            if self.follows[i].request == request {
+                let _ = self.follows.remove(i);
+                return;
+            }
+        }
     }
 
     /// Returns the id of the request that an answer answers, which comes on this side now, and notes
@@ -63,7 +77,7 @@ impl Answers {
     pub fn note(&mut self, frame: RawFrame<'_>) -> Result<i32, AllocError> {
         let header = frame.header();
         let request = self.request_of(header.response_to);
-        self.follows.retain(|follow| follow.request != request);
+        self.end_follow(request);
         if has_flag(frame, MORE_TO_COME) {
             let id = header.id;
             self.follows.push(Follow { id, request })?;
@@ -88,11 +102,7 @@ impl Answers {
 
     /// Takes out the first answer to this request, if there is one.
     pub fn take(&mut self, request: i32) -> Option<Answer> {
-        let i = self
-            .answers
-            .iter()
-            .position(|answer| answer.request == request)?;
-        Some(self.answers.remove(i))
+        self.take_beyond(request, 0)
     }
 
     /// Returns the index of the first answer to a request with this id, if there is one, that isn't
@@ -118,8 +128,10 @@ impl Answers {
     /// Takes out the first answer to a request with this id, if there is one, that isn't the answer
     /// to one of so many requests with it.
     pub fn take_beyond(&mut self, request: i32, requests: u64) -> Option<Answer> {
-        let i = self.place_beyond(request, requests)?;
-        Some(self.answers.remove(i))
+        match self.place_beyond(request, requests) {
+            Some(i) => Some(self.answers.remove(i)),
+            None => None,
+        }
     }
 
     /// Returns them, in order.
@@ -139,7 +151,11 @@ impl Answers {
 
     /// Returns the first moment up to which one is waited for, if one is.
     pub fn least_due(&self) -> Option<Instant> {
-        self.answers.iter().filter_map(|answer| answer.due).min()
+        let mut least = None;
+        for answer in &self.answers {
+            least = earlier(least, answer.due);
+        }
+        least
     }
 
     /// Returns true if there are none.

@@ -43,7 +43,13 @@ impl Asked {
 
     /// Returns when the first request with this id was recorded, if one is noted, and forgets it.
     pub fn take(&mut self, id: i32) -> Option<i64> {
-        let i = self.requests.iter().position(|request| request.id == id)?;
-        Some(self.requests.remove(i).micros)
+        for i in 0..self.requests.len() {
+            let request = self.requests[i];
+            if request.id == id {
+                let _ = self.requests.remove(i);
+                return Some(request.micros);
+            }
+        }
+        None
     }
 }

@@ -10,7 +10,7 @@ use wire_msg::{MAX_MESSAGE_LEN, MsgFault};
 use wire_stream::{Inlet, Link, LinkFault, Moved, Pulled, TcpLink};
 
 /// Why nothing more goes over a connection.
-#[derive(Clone, Copy, Debug, PartialEq, Eq)]
+#[derive(Clone, Copy)]
 pub enum Broken {
     /// Connecting to the server failed.
     Connecting(IoFailure),
@@ -40,7 +40,7 @@ impl fmt::Display for Broken {
 }
 
 /// What receiving came to.
-#[derive(Clone, Copy, Debug, PartialEq, Eq)]
+#[derive(Clone, Copy)]
 pub enum Coming {
     /// A message is whole.
     Message,
@@ -51,7 +51,7 @@ pub enum Coming {
 }
 
 /// What sending came to.
-#[derive(Clone, Copy, Debug, PartialEq, Eq)]
+#[derive(Clone, Copy)]
 pub enum Sent {
     /// All bytes were sent.
     All,

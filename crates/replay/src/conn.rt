@@ -1,5 +1,8 @@
 //! A connection of the record, and the one to the server over which its requests go.
 
+ghost use Rattle.std.specs.Prelude.{◌≡◌, is_none};
+ghost use Rattle.replay.specs.Stalls.{IsStalled};
+
 use crate::answers::{Answer, Answers};
 use crate::asked::Asked;
 use crate::channel::{Broken, Channel, Coming, Sent};
@@ -21,23 +24,16 @@ const STEPS: u32 = 1024;
 /// The most messages that are taken of a connection that failed. The system holds fewer.
 const HELD: u32 = 1 << 20;
 
-/// The connection to the server.
-#[derive(Drop)]
-pub enum Line {
-    Open(Channel),
-    /// Nothing more goes over it, which wasn't told yet.
-    Lost(Broken),
-    /// That was told.
-    Told,
-}
-
 /// A connection of the record, and the one to the server.
 #[derive(Drop)]
 pub struct Conn {
     alloc: Global,
     /// The number of the recorded connection.
     number: u64,
-    line: Line,
+    /// The connection to the server, as long as something may go over it.
+    channel: Option<Channel>,
+    /// Why nothing goes over it, if it is so and wasn't told yet.
+    untold: Option<Broken>,
     /// The answers of both sides that have no counterpart yet.
     sides: Sides,
     /// When the requests were recorded whose answers weren't read yet.
@@ -71,13 +67,30 @@ struct Stall {
     due: Option<Instant>,
 }
 
+/// Returns what is left to be sent after a call that sent `sent`, before which this was. The server
+/// has to take more of it within `patience` from now on, or from when it took some last.
+fn stall_after(sent: Sent, before: Option<Stall>, now: Instant, patience: Duration) -> Option<Stall>
+    ensures { IsStalled sent before patience result }
+{
+    match sent {
+        Sent::All => None,
+        Sent::Nothing if before.is_some() => before,
+        Sent::Nothing | Sent::Part => Some(Stall {
+            patience,
+            due: now.checked_add(patience),
+        }),
+    }
+}
+
 impl Conn {
-    /// Begins a connection of this number. It takes no memory.
-    pub fn new(alloc: Global, number: u64, line: Line) -> Conn {
+    /// Begins a connection of this number, over one to the server, unless there is none, for a
+    /// reason that is told later. It takes no memory.
+    fn new(alloc: Global, number: u64, channel: Option<Channel>, untold: Option<Broken>) -> Conn {
         Conn {
             alloc,
             number,
-            line,
+            channel,
+            untold,
             sides: Sides {
                 recorded: Answers::new(alloc),
                 received: Answers::new(alloc),
@@ -90,8 +103,21 @@ impl Conn {
         }
     }
 
+    /// Begins a connection of this number over one to the server. It takes no memory.
+    pub fn over(alloc: Global, number: u64, channel: Channel) -> Conn {
+        Conn::new(alloc, number, Some(channel), None)
+    }
+
+    /// Begins a connection of this number to which there is none to the server, for this reason,
+    /// which is told with the first record of it. It takes no memory.
+    pub fn lost(alloc: Global, number: u64, broken: Broken) -> Conn {
+        Conn::new(alloc, number, None, Some(broken))
+    }
+
     /// Returns the number of the recorded connection.
-    pub fn number(&self) -> u64 {
+    pub fn number(&self) -> u64
+        ensures { result ≡ self.now.number }
+    {
         self.number
     }
 
@@ -101,20 +127,23 @@ impl Conn {
     }
 
     /// Returns true if it is to take another turn at once.
-    pub fn has_more(&self) -> bool {
+    pub fn has_more(&self) -> bool
+        ensures { result ≡ self.now.has_more }
+    {
         self.has_more
     }
 
     /// Returns true if all that is to be sent was sent.
-    pub fn is_sent(&self) -> bool {
+    pub fn is_sent(&self) -> bool
+        ensures { result ≡ is_none self.now.stall }
+    {
         self.stall.is_none()
     }
 
     /// Tells that nothing more goes over the connection, if it is so and wasn't told, and that the
     /// awaited answers are missing.
     fn tell_lost<W: Write + Drop>(&mut self, teller: &mut Teller<'_, W>) -> io::Result<()> {
-        if let Line::Lost(broken) = self.line {
-            self.line = Line::Told;
+        if let Some(broken) = self.untold.take() {
             teller.tell_failed(self.number, broken)?;
         }
         for answer in self.sides.recorded.as_slice() {
@@ -131,13 +160,15 @@ impl Conn {
         broken: Broken,
         teller: &mut Teller<'_, W>,
     ) -> io::Result<()> {
-        let lacks = self.awaits() || !self.is_sent();
-        self.line = Line::Lost(broken);
+        let is_told = self.awaits() || !self.is_sent() || !matches!(broken, Broken::Ended);
+        self.channel = None;
+        self.untold = Some(broken);
         self.stall = None;
-        if lacks || broken != Broken::Ended {
-            self.tell_lost(teller)?;
+        if is_told {
+            self.tell_lost(teller)
+        } else {
+            Ok(())
         }
-        Ok(())
     }
 
     /// Takes the answers that came before sending failed, and closes the connection.
@@ -147,9 +178,9 @@ impl Conn {
         teller: &mut Teller<'_, W>,
     ) -> io::Result<()> {
         let _ = self.take_messages(HELD, teller)?;
-        let broken = match &self.line {
-            Line::Open(channel) => channel.unsent(fault),
-            _ => Broken::Sending(fault),
+        let broken = match &self.channel {
+            Some(channel) => channel.unsent(fault),
+            None => Broken::Sending(fault),
         };
         self.close(broken, teller)
     }
@@ -162,19 +193,16 @@ impl Conn {
         patience: Duration,
         teller: &mut Teller<'_, W>,
     ) -> io::Result<()> {
-        let Line::Open(channel) = &mut self.line else {
+        let Some(channel) = &mut self.channel else {
             return Ok(());
         };
         match channel.flush() {
-            Ok(Sent::All) => self.stall = None,
-            Ok(Sent::Nothing) if self.stall.is_some() => {}
-            Ok(_) => {
-                let due = now.checked_add(patience);
-                self.stall = Some(Stall { patience, due });
+            Ok(sent) => {
+                self.stall = stall_after(sent, self.stall, now, patience);
+                Ok(())
             }
-            Err(fault) => self.fail(fault, teller)?,
+            Err(fault) => self.fail(fault, teller),
         }
-        Ok(())
     }
 
     /// Notes a request that is sent now and wants an answer. Answers to its id that came before are
@@ -190,7 +218,9 @@ impl Conn {
             let Some(answer) = self.sides.received.take_beyond(id, open) else {
                 break;
             };
-            teller.tell_unexpected(self.number, id, &answer.bytes)?;
+            let told = teller.tell_unexpected(self.number, id, &answer.bytes);
+            drop(answer);
+            told?;
         }
         self.sides.open.add(id)?;
         self.asked.note(id, micros)?;
@@ -208,14 +238,47 @@ impl Conn {
         taken: Taken,
         teller: &mut Teller<'_, W>,
     ) -> io::Result<()> {
-        match &mut self.line {
-            Line::Open(channel) => channel.push(frame.as_bytes())?,
-            _ => return self.tell_lost(teller),
+        match &mut self.channel {
+            Some(channel) => channel.push(frame.as_bytes())?,
+            None => return self.tell_lost(teller),
         }
         if wants_answer(frame) {
             self.ask(frame.header().id, taken.micros, teller)?;
         }
         self.flush(taken.now, taken.patience(None), teller)
+    }
+
+    /// Reads a recorded answer, and notes what it says of its request.
+    fn read_recorded(&mut self, frame: RawFrame<'_>, taken: Taken) -> Result<Answer, AllocError> {
+        let request = self.sides.recorded.note(frame)?;
+        let due = taken.due(self.asked.take(request));
+        let more = has_flag(frame, MORE_TO_COME);
+        if more {
+            self.asked.note(request, taken.micros)?;
+        } else {
+            let _ = self.sides.open.take(request);
+        }
+        Ok(Answer {
+            request,
+            more,
+            bytes: plain_bytes(self.alloc, frame)?,
+            due,
+        })
+    }
+
+    /// Awaits the counterpart of a recorded answer, or tells at once that it is missing, if nothing
+    /// more comes.
+    fn await_one<W: Write + Drop>(
+        &mut self,
+        recorded: Answer,
+        teller: &mut Teller<'_, W>,
+    ) -> io::Result<()> {
+        self.sides.recorded.push(recorded)?;
+        if self.channel.is_some() {
+            Ok(())
+        } else {
+            self.tell_lost(teller)
+        }
     }
 
     /// Awaits a recorded answer for as long as the record took for it, and some time more, or
@@ -230,34 +293,28 @@ impl Conn {
         taken: Taken,
         teller: &mut Teller<'_, W>,
     ) -> io::Result<()> {
-        let request = self.sides.recorded.note(frame)?;
-        let due = taken.due(self.asked.take(request));
-        let more = has_flag(frame, MORE_TO_COME);
-        if more {
-            self.asked.note(request, taken.micros)?;
-        } else {
-            let _ = self.sides.open.take(request);
+        let recorded = self.read_recorded(frame, taken)?;
+        match self.sides.received.take(recorded.request) {
+            Some(received) => self.compare(&recorded, &received, teller),
+            None => self.await_one(recorded, teller),
         }
-        let bytes = plain_bytes(self.alloc, frame)?;
-        if let Some(answer) = self.sides.received.take(request) {
-            return teller.compare(self.number, request, &bytes, &answer.bytes);
-        }
-        self.sides.recorded.push(Answer {
-            request,
-            more,
-            bytes,
-            due,
-        })?;
-        match self.line {
-            Line::Open(_) => Ok(()),
-            _ => self.tell_lost(teller),
-        }
+    }
+
+    /// Compares a recorded answer with the one that came.
+    fn compare<W: Write + Drop>(
+        &self,
+        recorded: &Answer,
+        received: &Answer,
+        teller: &mut Teller<'_, W>,
+    ) -> io::Result<()> {
+        let request = recorded.request;
+        teller.compare(self.number, request, &recorded.bytes, &received.bytes)
     }
 
     /// Takes the message that came, and lets go of it in the connection. Returns its bytes and the
     /// request that it answers.
     fn take_message(&mut self) -> Result<Option<Answer>, AllocError> {
-        let Line::Open(channel) = &mut self.line else {
+        let Some(channel) = &mut self.channel else {
             return Ok(None);
         };
         let Some(frame) = channel.message() else {
@@ -286,18 +343,16 @@ impl Conn {
             return teller.tell_late(self.number, answer.request, &answer.bytes);
         }
         match self.sides.recorded.take(answer.request) {
-            Some(recorded) => {
-                teller.compare(self.number, answer.request, &recorded.bytes, &answer.bytes)
-            }
+            Some(recorded) => self.compare(&recorded, &answer, teller),
             None => Ok(self.sides.received.push(answer)?),
         }
     }
 
     /// Receives until a message is whole.
     fn receive(&mut self) -> Result<Coming, AllocError> {
-        match &mut self.line {
-            Line::Open(channel) => channel.receive(),
-            _ => Ok(Coming::Later),
+        match &mut self.channel {
+            Some(channel) => channel.receive(),
+            None => Ok(Coming::Later),
         }
     }
 
@@ -335,7 +390,7 @@ impl Conn {
             self.flush(now, stall.patience, teller)?;
         }
         let coming = self.take_messages(STEPS, teller)?;
-        self.has_more = coming == Coming::Message;
+        self.has_more = matches!(coming, Coming::Message);
         match coming {
             Coming::Over(broken) => self.close(broken, teller),
             Coming::Message | Coming::Later => Ok(()),

@@ -205,6 +205,60 @@ fn are_same_messages(
     are_same_sequences(alloc, names, a, b)
 }
 
+/// Returns true if an answer is a message that holds the same as this one but for the fields of
+/// these names.
+fn is_same_message(
+    alloc: Global,
+    names: &[&str],
+    recorded: RawMsg<'_>,
+    received: &[u8],
+) -> Result<bool, AllocError>
+    ensures message { (m n : Message) → SpellsMsg m (msg_bytes recorded.entry)
+        → SpellsMsg n received.now → length received.now ≤ MAX_MESSAGE_LEN
+        → IfOk result (λ same. IsTrue same ↔ AreSameMessages (map (λ n. n.now) names.now) m n) }
+    ensures none { ¬ IsMessage MAX_MESSAGE_LEN received.now → IfOk result (λ same. same ≡ false) }
+{
+    match Content::of(alloc, received) {
+        Content::Message(message) => are_same_messages(alloc, names, recorded, message),
+        _ => Ok(false),
+    }
+}
+
+/// Returns true if an answer is an OP_REPLY with the same documents as these but for the fields of
+/// these names.
+fn is_same_reply(
+    alloc: Global,
+    names: &[&str],
+    recorded: &[u8],
+    received: &[u8],
+) -> Result<bool, AllocError>
+    ensures reply { (ts us : List Tree) (rest other : List ℕ) → DocumentSplit recorded.now ts rest
+        → IsReply received.now → DocumentSplit (drop 36 received.now) us other
+        → IfOk result (λ same. IsTrue same
+        ↔ (AreSameDocuments (map (λ n. n.now) names.now) ts us × (rest ≡ other))) }
+    ensures none { ¬ IsReply received.now → IfOk result (λ same. same ≡ false) }
+{
+    match Content::of(alloc, received) {
+        Content::Reply(documents) => are_same_replies(alloc, names, recorded, documents),
+        Content::Message(_) | Content::Other(_) => Ok(false),
+    }
+}
+
+/// Returns true if an answer is neither a message nor an OP_REPLY, and has these bytes from its
+/// opCode on.
+fn is_same_other(alloc: Global, recorded: &[u8], received: &[u8]) -> bool
+    ensures other { ¬ IsMessage MAX_MESSAGE_LEN received.now → ¬ IsReply received.now
+        → (IsTrue result ↔ (recorded.now ≡ drop 12 received.now)) }
+    ensures message { (n : Message) → SpellsMsg n received.now
+        → length received.now ≤ MAX_MESSAGE_LEN → result ≡ false }
+    ensures reply { IsReply received.now → result ≡ false }
+{
+    match Content::of(alloc, received) {
+        Content::Other(bytes) => recorded == bytes,
+        Content::Message(_) | Content::Reply(_) => false,
+    }
+}
+
 /// Returns true if two answers hold the same but for the fields of these names. Their ids aren't
 /// compared.
 ///
@@ -238,11 +292,10 @@ pub fn are_same_answers(
     ensures received_reply_alone { ¬ IsReply recorded.now → IsReply received.now
         → IfOk result (λ same. same ≡ false) }
 {
-    match (Content::of(alloc, recorded), Content::of(alloc, received)) {
-        (Content::Message(a), Content::Message(b)) => are_same_messages(alloc, names, a, b),
-        (Content::Reply(a), Content::Reply(b)) => are_same_replies(alloc, names, a, b),
-        (Content::Other(a), Content::Other(b)) => Ok(a == b),
-        _ => Ok(false),
+    match Content::of(alloc, recorded) {
+        Content::Message(message) => is_same_message(alloc, names, message, received),
+        Content::Reply(documents) => is_same_reply(alloc, names, documents, received),
+        Content::Other(bytes) => Ok(is_same_other(alloc, bytes, received)),
     }
 }
 

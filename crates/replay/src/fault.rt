@@ -1,20 +1,16 @@
 //! Why a replay ends early.
 
 use std::alloc::AllocError;
-use std::io;
-use thiserror::Error;
+use std::{fmt, io};
 
 /// Why a replay ends early.
-#[derive(Debug, Drop, Error)]
+#[derive(Drop)]
 pub enum ReplayFault {
     /// The file of records can't be read, or memory ran out for it.
-    #[error("the records can't be read: {0}")]
     Records(io::Error),
     /// The server's address can't be found.
-    #[error("the server's address: {0}")]
     Address(io::Error),
     /// Writing or waiting failed, or memory ran out for anything else.
-    #[error("{0}")]
     Io(io::Error),
 }
 
@@ -26,6 +22,18 @@ impl ReplayFault {
                 error
             }
         }
+    }
+}
+
+impl fmt::Display for ReplayFault {
+    fn fmt<W: fmt::Write>(&self, f: &mut fmt::Formatter<W>) -> fmt::Result {
+        let before = match self {
+            ReplayFault::Records(_) => "the records can't be read: ",
+            ReplayFault::Address(_) => "the server's address: ",
+            ReplayFault::Io(_) => "",
+        };
+        let error = self.error();
+        write!(f, "{before}{error}")
     }
 }
 

@@ -17,8 +17,10 @@ const UNANSWERED: [i32; 4] = [2001, 2002, 2006, 2007];
 
 /// Returns true if a message is an OP_MSG that has this flag in the first byte of its flags.
 pub fn has_flag(frame: RawFrame<'_>, flag: u8) -> bool {
-    let flags = frame.as_bytes().get(FLAGS);
-    frame.opcode() == Opcode::Msg && flags.is_some_and(|flags| *flags & flag != 0)
+    match frame.as_bytes().get(FLAGS) {
+        Some(flags) if frame.opcode() == Opcode::Msg => *flags & flag != 0,
+        _ => false,
+    }
 }
 
 /// Returns true if an answer comes to a request: to each OP_MSG without moreToCome, and to each

@@ -1,7 +1,7 @@
 //! Compares documents without the fields that are ignored.
 
-ghost use Rattle.std.specs.Prelude.{◌≡◌, ◌↔◌, ◌<◌, IfOk, IsTrue, MatchOption, OnOk, OnSome, false};
-ghost use Rattle.std.specs.Prelude.{map, string_bytes, true};
+ghost use Rattle.std.specs.Prelude.{◌≡◌, ◌↔◌, ◌<◌, [], IfOk, IsTrue, MatchOption, OnOk, OnSome};
+ghost use Rattle.std.specs.Prelude.{false, map, string_bytes, true};
 ghost use Rattle.bson_elem.specs.{Spells, Tree};
 ghost use Rattle.bson_raw.specs.{document_bytes, is_among};
 ghost use Rattle.bson_doc.specs.{plain, put, tree_of, value_of};
@@ -32,14 +32,6 @@ fn put_field(document: &mut Document, name: String, value: Bson) -> Option<()>
     Some(())
 }
 
-/// Sets the field with this name of a document.
-fn set(alloc: Global, document: &mut Document, name: &str, value: Bson) -> Result<(), AllocError>
-    ensures { OnOk result (document.new ≡ put name.now (value_of value) document.old) }
-{
-    let name = String::from_str(alloc, name)?;
-    put_field(document, name, value).ok_or(AllocError)
-}
-
 /// Returns a value without the fields of these names.
 #[cycle(stripped)]
 fn stripped_value(alloc: Global, names: &[&str], value: &Bson) -> Result<Bson, AllocError>
@@ -60,6 +52,23 @@ fn stripped_value(alloc: Global, names: &[&str], value: &Bson) -> Result<Bson, A
     }
 }
 
+/// Adds values without the fields of these names to what is left.
+#[cycle(stripped)]
+fn strip_values(
+    alloc: Global,
+    names: &[&str],
+    values: &[Bson],
+    left: &mut Vec<Bson>,
+) -> Result<(), AllocError>
+    ensures { left.old.items ≡ [] → OnOk result (map value_of left.new.items
+        ≡ map (stripped_value (map (λ n. n.now) names.now)) (map value_of values.now)) }
+{
+    for value in values {
+        left.push(stripped_value(alloc, names, value)?)?;
+    }
+    Ok(())
+}
+
 /// Returns values without the fields of these names.
 #[cycle(stripped)]
 fn stripped_values(alloc: Global, names: &[&str], values: &[Bson]) -> Result<Vec<Bson>, AllocError>
@@ -67,10 +76,29 @@ fn stripped_values(alloc: Global, names: &[&str], values: &[Bson]) -> Result<Vec
         ≡ map (stripped_value (map (λ n. n.now) names.now)) (map value_of values.now)) }
 {
     let mut left = Vec::with_capacity(alloc, values.len())?;
-    for value in values {
-        left.push(stripped_value(alloc, names, value)?)?;
-    }
+    strip_values(alloc, names, values, &mut left)?;
     Ok(left)
+}
+
+/// Sets the fields of a document, without those of these names at every depth, in what is left.
+#[cycle(stripped)]
+fn strip_fields(
+    alloc: Global,
+    names: &[&str],
+    document: &Document,
+    left: &mut Document,
+) -> Result<(), AllocError>
+    ensures { left.old ≡ [] → OnOk result
+        (tree_of left.new ≡ stripped (map (λ n. n.now) names.now) (tree_of document.now)) }
+{
+    for (name, value) in document.iter() {
+        if !is_among(names, name) {
+            let name = String::from_str(alloc, name)?;
+            let value = stripped_value(alloc, names, value)?;
+            put_field(left, name, value).ok_or(AllocError)?;
+        }
+    }
+    Ok(())
 }
 
 /// Returns a document without the fields of these names, at every depth.
@@ -80,11 +108,7 @@ fn stripped(alloc: Global, names: &[&str], document: &Document) -> Result<Docume
         tree_of d ≡ stripped (map (λ n. n.now) names.now) (tree_of document.now)) }
 {
     let mut left = Document::new(alloc);
-    for (name, value) in document.iter() {
-        if !is_among(names, name) {
-            set(alloc, &mut left, name, stripped_value(alloc, names, value)?)?;
-        }
-    }
+    strip_fields(alloc, names, document, &mut left)?;
     Ok(left)
 }
 
@@ -102,7 +126,7 @@ fn read_stripped(
         × (tree_of d ≡ stripped (map (λ n. n.now) names.now) (plain t)))) }
 {
     match Document::from_raw(alloc, raw) {
-        Ok(document) => Ok(Some(stripped(alloc, names, &document)?)),
+        Ok(document) => stripped(alloc, names, &document).map(Some),
         Err(DocRefusal::OutOfMemory) => Err(AllocError),
         Err(_) => Ok(None),
     }
@@ -126,6 +150,26 @@ fn have_same_bytes(a: RawDocument<'_>, b: RawDocument<'_>) -> bool
     a.as_bytes() == b.as_bytes()
 }
 
+/// Returns true if what is left of a recorded document is what is left of the other one; or if they
+/// have the same bytes, where the other one has a name twice.
+fn is_left(
+    alloc: Global,
+    names: &[&str],
+    left: &Document,
+    recorded: RawDocument<'_>,
+    received: RawDocument<'_>,
+) -> Result<bool, AllocError>
+    ensures { (t u : Tree) → Spells t (document_bytes recorded.entry)
+        → Spells u (document_bytes received.entry) → has_own_names t ≡ true
+        → tree_of left.now ≡ stripped (map (λ n. n.now) names.now) (plain t)
+        → IfOk result (λ same. IsTrue same ↔ AreSame (map (λ n. n.now) names.now) t u) }
+{
+    match read_stripped(alloc, names, received)? {
+        Some(other) => Ok(are_same_documents(left, &other)),
+        None => Ok(have_same_bytes(recorded, received)),
+    }
+}
+
 /// Returns true if two documents are the same but for the fields of these names, at every depth. If
 /// a name stands twice in one of them, or in a document inside, all fields are compared. Each value
 /// is compared with its kind, bit by bit; the names in arrays aren't, unless all is.
@@ -143,11 +187,18 @@ pub fn are_same(
         → Spells u (document_bytes received.entry)
         → IfOk result (λ same. IsTrue same ↔ AreSame (map (λ n. n.now) names.now) t u) }
 {
-    let a = read_stripped(alloc, names, recorded)?;
-    let b = read_stripped(alloc, names, received)?;
-    match (a, b) {
-        (Some(a), Some(b)) => Ok(are_same_documents(&a, &b)),
-        _ => Ok(have_same_bytes(recorded, received)),
+    let Some(left) = read_stripped(alloc, names, recorded)? else {
+        return Ok(have_same_bytes(recorded, received));
+    };
+    is_left(alloc, names, &left, recorded, received)
+}
+
+/// Returns the bytes of a document, or `None` if it can't be written.
+fn written(document: &Document) -> Result<Option<RawDocumentBuf>, AllocError> {
+    match document.to_raw() {
+        Ok(bytes) => Ok(Some(bytes)),
+        Err(DocRefusal::OutOfMemory) => Err(AllocError),
+        Err(_) => Ok(None),
     }
 }
 
@@ -165,12 +216,8 @@ pub fn without_ignored(
     if names.is_empty() {
         return Ok(None);
     }
-    let Some(document) = read_stripped(alloc, names, raw)? else {
-        return Ok(None);
-    };
-    match document.to_raw() {
-        Ok(left) => Ok(Some(left)),
-        Err(DocRefusal::OutOfMemory) => Err(AllocError),
-        Err(_) => Ok(None),
+    match read_stripped(alloc, names, raw)? {
+        Some(document) => written(&document),
+        None => Ok(None),
     }
 }

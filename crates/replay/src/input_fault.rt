@@ -4,7 +4,7 @@ use std::fmt;
 use wire_frames::RecordCause;
 
 /// Why a file isn't one of records. An `offset` counts from the file's first byte.
-#[derive(Clone, Copy, Debug, PartialEq, Eq)]
+#[derive(Clone, Copy)]
 pub enum InputFault {
     /// It doesn't begin with the signature of such files.
     Signature,

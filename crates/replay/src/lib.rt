@@ -6,7 +6,7 @@
 //! on each connection the answer to the same request, and of several the one at the same index. All
 //! connections are served in one thread.
 //!
-//! Uses wire_frames, wire_stream, bson_doc, bson_json and sockets. Used by bsonwire. Read first:
+//! Uses wire_frames, wire_stream, bson_doc, bson_json and sockets. Used by bsonproxy. Read first:
 //! `options`, `ignored`, `answers`, and then `conn` and `player`.
 #![tactic(auto)]
 

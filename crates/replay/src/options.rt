@@ -1,7 +1,7 @@
 //! What a replay is to do.
 
 /// What a replay is to do.
-#[derive(Clone, Copy, Debug, PartialEq, Eq)]
+#[derive(Clone, Copy)]
 pub struct ReplayOptions<'a> {
     /// The file of records, or `-` for standard input.
     pub file: &'a str,

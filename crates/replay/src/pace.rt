@@ -1,5 +1,8 @@
 //! Says when records are taken, and compares moments.
 
+ghost use Rattle.std.specs.Prelude.{◌≡◌, ◌*◌, ◌/◌, None, is_none, max, min};
+ghost use Rattle.replay.specs.Paces.{IsTimed};
+
 use std::time::{Duration, Instant};
 
 /// How long an answer is awaited, in microseconds, beside as long as the record took for it.
@@ -34,6 +37,15 @@ impl Taken {
     }
 }
 
+/// When a record is taken.
+#[derive(Clone, Copy)]
+pub enum Timing {
+    /// Now.
+    Now(Taken),
+    /// Not before this moment.
+    At(Instant),
+}
+
 /// When the records are taken.
 #[derive(Clone, Copy)]
 pub struct Pace {
@@ -46,10 +58,12 @@ pub struct Pace {
 
 /// Returns the earlier one of two moments, or the one that there is.
 pub fn earlier(a: Option<Instant>, b: Option<Instant>) -> Option<Instant> {
-    match (a, b) {
-        (Some(a), Some(b)) => Some(a.min(b)),
-        (Some(a), None) => Some(a),
-        (None, b) => b,
+    let Some(first) = a else {
+        return b;
+    };
+    match b {
+        Some(second) if second < first => b,
+        _ => a,
     }
 }
 
@@ -60,7 +74,10 @@ pub fn later(a: Option<Instant>, b: Option<Instant>) -> Option<Instant> {
 
 /// Returns true if there is a moment, and it isn't later than `now`.
 pub fn is_past(due: Option<Instant>, now: Instant) -> bool {
-    due.is_some_and(|due| due <= now)
+    match due {
+        Some(due) => due <= now,
+        None => false,
+    }
 }
 
 /// Returns how many microseconds lie between two times, or 0 if the second one is the earlier.
@@ -69,14 +86,20 @@ fn between(from: i64, to: i64) -> u64 {
 }
 
 /// Returns a number of microseconds at a speed in percent.
-fn scaled(micros: u64, speed: u64) -> u64 {
+fn scaled(micros: u64, speed: u64) -> u64
+    ensures { result ≡ min (micros * 100 / max speed 1) 18446744073709551615 }
+{
     let parts = u128::from(micros) * 100 / u128::from(speed.max(1));
     u64::try_from(parts).unwrap_or(u64::MAX)
 }
 
 impl Pace {
     /// Begins at this speed in percent; without it, records are taken as fast as answers come.
-    pub fn new(speed: Option<u64>) -> Pace {
+    pub fn new(speed: Option<u64>) -> Pace
+        ensures speed { result.speed ≡ speed }
+        ensures begun { result.begun ≡ None }
+        ensures last { result.last ≡ None }
+    {
         Pace {
             speed,
             begun: None,
@@ -85,26 +108,37 @@ impl Pace {
     }
 
     /// Returns true if each record waits for the answers that were recorded before it.
-    pub fn waits_for_answers(&self) -> bool {
+    pub fn waits_for_answers(&self) -> bool
+        ensures { result ≡ is_none self.now.speed }
+    {
         self.speed.is_none()
     }
 
     /// Returns the moment at which a record of this time is taken, if there is one.
-    pub fn due(&mut self, now: Instant, micros: i64) -> Option<Instant> {
+    fn due(&mut self, now: Instant, micros: i64) -> Option<Instant>
+        ensures last { self.new.last ≡ self.old.last }
+        ensures speed { self.new.speed ≡ self.old.speed }
+        ensures none { self.old.speed ≡ None → result ≡ None }
+    {
         let speed = self.speed?;
-        let begun = match self.begun {
-            Some(begun) => begun,
-            None => Begun { now, micros },
-        };
+        let begun = self.begun.unwrap_or(Begun { now, micros });
         self.begun = Some(begun);
         let late = scaled(between(begun.micros, micros), speed);
         begun.now.checked_add(Duration::from_micros(late))
     }
 
-    /// Notes that a record of this time is taken now.
-    pub fn take(&mut self, now: Instant, micros: i64) -> Taken {
-        let last = self.last.unwrap_or(micros);
-        self.last = Some(micros);
-        Taken { now, micros, last }
+    /// Returns when a record of this time is taken. If that is now, notes it.
+    pub fn take(&mut self, now: Instant, micros: i64) -> Timing
+        ensures timed { IsTimed now micros self.old.last self.new.last result }
+        ensures speed { self.new.speed ≡ self.old.speed }
+    {
+        match self.due(now, micros) {
+            Some(due) if due > now => Timing::At(due),
+            _ => {
+                let last = self.last.unwrap_or(micros);
+                self.last = Some(micros);
+                Timing::Now(Taken { now, micros, last })
+            }
+        }
     }
 }

@@ -3,7 +3,7 @@
 ghost use Rattle.std.specs.Prelude.{◌≡◌, IfOk};
 
 use crate::channel::{Broken, Channel};
-use crate::conn::{Conn, Line};
+use crate::conn::Conn;
 use crate::input_fault::InputFault;
 use crate::pace::{Taken, earlier};
 use crate::tally::Tally;
@@ -58,21 +58,33 @@ impl<'a, W: Write + Drop> Player<'a, W> {
 
     /// Connects to the server for one more connection of the record.
     fn open(&mut self, net: &impl Net, number: u64) -> Result<(), AllocError> {
-        let line = match self.connect(net, self.conns.len()) {
-            Ok(stream) => Line::Open(Channel::new(self.alloc, stream)?),
-            Err(error) => Line::Lost(Broken::Connecting(IoFailure::of(&error))),
+        let conn = match self.connect(net, self.conns.len()) {
+            Ok(stream) => Conn::over(self.alloc, number, Channel::new(self.alloc, stream)?),
+            Err(error) => {
+                let broken = Broken::Connecting(IoFailure::of(&error));
+                Conn::lost(self.alloc, number, broken)
+            }
         };
-        self.conns.push(Conn::new(self.alloc, number, line))?;
+        self.conns.push(conn)?;
         Ok(())
+    }
+
+    /// Returns the index of the connection of this number, or how many there are if there is none.
+    fn place_of(&self, number: u64) -> usize {
+        for i in 0..self.conns.len() {
+            if self.conns[i].number() == number {
+                return i;
+            }
+        }
+        self.conns.len()
     }
 
     /// Returns the index of the connection of this number, which is made if there is none.
     fn index_of(&mut self, net: &impl Net, number: u64) -> Result<usize, AllocError> {
-        if let Some(i) = self.conns.iter().position(|conn| conn.number() == number) {
-            return Ok(i);
+        let i = self.place_of(number);
+        if i == self.conns.len() {
+            self.open(net, number)?;
         }
-        let i = self.conns.len();
-        self.open(net, number)?;
         Ok(i)
     }
 
@@ -95,23 +107,47 @@ impl<'a, W: Write + Drop> Player<'a, W> {
 
     /// Returns true if recorded answers are awaited.
     pub fn awaits(&self) -> bool {
-        self.conns.iter().any(|conn| conn.awaits())
+        for conn in &self.conns {
+            if conn.awaits() {
+                return true;
+            }
+        }
+        false
     }
 
     /// Returns true if all requests were sent.
     pub fn is_sent(&self) -> bool {
-        self.conns.iter().all(|conn| conn.is_sent())
+        for conn in &self.conns {
+            if !conn.is_sent() {
+                return false;
+            }
+        }
+        true
     }
 
     /// Returns the first moment up to which an answer is awaited, or bytes have to be sent.
     fn least_due(&self) -> Option<Instant> {
-        self.conns.iter().filter_map(|conn| conn.least_due()).min()
+        let mut least = None;
+        for conn in &self.conns {
+            least = earlier(least, conn.least_due());
+        }
+        least
+    }
+
+    /// Returns true if a connection is to take another turn at once.
+    fn has_more(&self) -> bool {
+        for conn in &self.conns {
+            if conn.has_more() {
+                return true;
+            }
+        }
+        false
     }
 
     /// Returns how long events are waited for: up to the moment `until`, if there is one, and no
     /// longer than for an answer; not at all if more may be there.
     fn timeout(&self, clock: &impl Clock, until: Option<Instant>) -> io::Result<Option<Duration>> {
-        if self.conns.iter().any(|conn| conn.has_more()) {
+        if self.has_more() {
             return Ok(Some(Duration::from_millis(0)));
         }
         let Some(due) = earlier(until, self.least_due()) else {
@@ -127,6 +163,31 @@ impl<'a, W: Write + Drop> Player<'a, W> {
             conn.expire(now, &mut self.teller)?;
         }
         Ok(())
+    }
+
+    /// Writes out what was told, and waits for events, but not beyond the moment `until`.
+    fn wait(
+        &mut self,
+        clock: &impl Clock,
+        events: &mut Events<Global>,
+        until: Option<Instant>,
+    ) -> io::Result<()> {
+        self.teller.flush()?;
+        let timeout = self.timeout(clock, until)?;
+        sockets::wait(&mut self.poll, events, timeout)
+    }
+
+    /// Has each connection take a turn of which these events are. Returns how many events there are.
+    fn turn_told(&mut self, now: Instant, events: &Events<Global>) -> io::Result<usize> {
+        let mut told: usize = 0;
+        for event in events.iter() {
+            told = told.saturating_add(1);
+            let Token(token) = event.token();
+            if let Some(conn) = self.conns.get_mut(token) {
+                conn.turn(now, &mut self.teller)?;
+            }
+        }
+        Ok(told)
     }
 
     /// Has each connection take another turn that is to take one at once.
@@ -151,18 +212,9 @@ impl<'a, W: Write + Drop> Player<'a, W> {
         events: &mut Events<Global>,
         until: Option<Instant>,
     ) -> io::Result<()> {
-        self.teller.flush()?;
-        let timeout = self.timeout(rt, until)?;
-        sockets::wait(&mut self.poll, events, timeout)?;
+        self.wait(rt, events, until)?;
         let now = Instant::now(rt)?;
-        let mut told: usize = 0;
-        for event in events.iter() {
-            told = told.saturating_add(1);
-            let Token(token) = event.token();
-            if let Some(conn) = self.conns.get_mut(token) {
-                conn.turn(now, &mut self.teller)?;
-            }
-        }
+        let told = self.turn_told(now, events)?;
         self.turn_rest(now)?;
         // Where a wait told as many events as it can, answers may be there of which it told none.
         if told < EVENTS {

@@ -6,7 +6,7 @@ ghost use Rattle.replay.specs.Counts.{IsOutcome};
 use crate::fault::ReplayFault;
 use crate::input_fault::InputFault;
 use crate::options::ReplayOptions;
-use crate::pace::Pace;
+use crate::pace::{Pace, Timing};
 use crate::player::Player;
 use crate::records::Records;
 use crate::tally::Tally;
@@ -17,7 +17,7 @@ use std::alloc::{AllocError, Global};
 use std::fs::File;
 use std::io;
 use std::io::{BufWriter, Read, Write};
-use std::net::Net;
+use std::net::{Net, SocketAddr};
 use std::rt::Files;
 use std::time::{Clock, Duration, Instant};
 
@@ -25,7 +25,7 @@ use std::time::{Clock, Duration, Instant};
 const LINGER: u64 = 200;
 
 /// What a replay came to.
-#[derive(Clone, Copy, Debug, PartialEq, Eq)]
+#[derive(Clone, Copy)]
 pub enum Outcome {
     /// All answers are the same as the recorded ones.
     Same,
@@ -76,22 +76,32 @@ impl<'a, F: Read + Drop, W: Write + Drop> Replay<'a, F, W> {
         self.player.is_sent() && !(self.pace.waits_for_answers() && self.player.awaits())
     }
 
+    /// Reads on until a record is held. Returns false if there are no more.
+    fn read_one(&mut self) -> Result<bool, ReplayFault> {
+        match self.records.read_one() {
+            Ok(has_one) => {
+                if !has_one {
+                    self.is_over = true;
+                }
+                Ok(has_one)
+            }
+            Err(error) => Err(ReplayFault::Records(error)),
+        }
+    }
+
     /// Takes the record that is held, unless its time hasn't come. Returns that time then.
     fn take_one<R: Net + Clock>(&mut self, rt: &R) -> io::Result<Option<Instant>> {
         let Some(record) = self.records.record() else {
             return Ok(None);
         };
-        let micros = record.head().micros;
-        let now = Instant::now(rt)?;
-        if let Some(due) = self.pace.due(now, micros)
-            && due > now
-        {
-            return Ok(Some(due));
+        match self.pace.take(Instant::now(rt)?, record.head().micros) {
+            Timing::Now(taken) => {
+                self.player.take(rt, record, taken)?;
+                self.records.release();
+                Ok(None)
+            }
+            Timing::At(due) => Ok(Some(due)),
         }
-        let taken = self.pace.take(now, micros);
-        self.player.take(rt, record, taken)?;
-        self.records.release();
-        Ok(None)
     }
 
     /// Takes records, as many as may be taken now. Returns the time of the next one, if that hasn't
@@ -101,8 +111,7 @@ impl<'a, F: Read + Drop, W: Write + Drop> Replay<'a, F, W> {
             if !self.may_go_on() {
                 break;
             }
-            if !self.records.read_one().map_err(ReplayFault::Records)? {
-                self.is_over = true;
+            if !self.read_one()? {
                 break;
             }
             if let Some(due) = self.take_one(rt)? {
@@ -159,6 +168,43 @@ impl<'a, F: Read + Drop, W: Write + Drop> Replay<'a, F, W> {
     }
 }
 
+/// Plays these records to the server at an address, at a pace.
+fn play_records<R: Net + Clock, F: Read + Drop, W: Write + Drop>(
+    rt: &R,
+    alloc: Global,
+    server: SocketAddr,
+    pace: Pace,
+    records: Records<F>,
+    teller: Teller<'_, W>,
+) -> Result<Outcome, ReplayFault> {
+    let mut events = Events::with_capacity(alloc, EVENTS)?;
+    let mut replay = Replay {
+        records,
+        player: Player::new(rt, alloc, server, teller)?,
+        pace,
+        is_over: false,
+    };
+    replay.run(rt, &mut events)
+}
+
+/// Plays the records that a reader gives, to the server at an address, without comparing the fields
+/// of these names.
+fn play_to<R: Net + Clock, F: Read + Drop, W: Write + Drop>(
+    rt: &R,
+    alloc: Global,
+    server: SocketAddr,
+    pace: Pace,
+    names: &[&str],
+    reader: F,
+    out: W,
+) -> Result<Outcome, ReplayFault> {
+    let teller = Teller::new(alloc, names, BufWriter::new(alloc, out)?);
+    match Records::new(alloc, reader) {
+        Ok(records) => play_records(rt, alloc, server, pace, records, teller),
+        Err(error) => Err(ReplayFault::Records(error)),
+    }
+}
+
 /// Plays the records that a reader gives.
 fn run_over<R: Net + Clock, F: Read + Drop, W: Write + Drop>(
     rt: &R,
@@ -167,17 +213,13 @@ fn run_over<R: Net + Clock, F: Read + Drop, W: Write + Drop>(
     reader: F,
     out: W,
 ) -> Result<Outcome, ReplayFault> {
-    let server = address_of(rt, options.address).map_err(ReplayFault::Address)?;
-    let names = names_of(alloc, options.ignore)?;
-    let teller = Teller::new(alloc, names.as_slice(), BufWriter::new(alloc, out)?);
-    let mut events = Events::with_capacity(alloc, EVENTS)?;
-    let mut replay = Replay {
-        records: Records::new(alloc, reader).map_err(ReplayFault::Records)?,
-        player: Player::new(rt, alloc, server, teller)?,
-        pace: Pace::new(options.speed),
-        is_over: false,
+    let server = match address_of(rt, options.address) {
+        Ok(server) => server,
+        Err(error) => return Err(ReplayFault::Address(error)),
     };
-    replay.run(rt, &mut events)
+    let names = names_of(alloc, options.ignore)?;
+    let pace = Pace::new(options.speed);
+    play_to(rt, alloc, server, pace, names.as_slice(), reader, out)
 }
 
 /// Sends what the clients of a file of records sent to the server, each connection of the file over
@@ -196,6 +238,8 @@ pub fn run<R: Net + Files + Input + Clock, W: Write + Drop>(
     if options.file == "-" {
         return run_over(rt, alloc, options, rt.reader(), out);
     }
-    let file = File::open(rt, options.file).map_err(ReplayFault::Records)?;
-    run_over(rt, alloc, options, file, out)
+    match File::open(rt, options.file) {
+        Ok(file) => run_over(rt, alloc, options, file, out),
+        Err(error) => Err(ReplayFault::Records(error)),
+    }
 }

@@ -8,7 +8,7 @@ use std::fmt;
 /// How many answers were the same as the recorded ones, and how many weren't. Each recorded answer
 /// is in one of the first three counts, and each of the server that isn't beside one of those in
 /// one of the next three.
-#[derive(Clone, Copy, Debug, PartialEq, Eq)]
+#[derive(Clone, Copy)]
 pub struct Tally {
     /// The recorded ones that are the same.
     pub same: u64,

@@ -17,6 +17,12 @@ use std::io;
 use std::io::Write;
 use wire_msg::MAX_MESSAGE_LEN;
 
+/// What stands before a recorded answer.
+const RECORDED: &[u8] = b"- ";
+
+/// What stands before one of the server.
+const RECEIVED: &[u8] = b"+ ";
+
 /// Compares answers, and writes which ones differ.
 #[derive(Drop)]
 pub struct Teller<'a, W: Write + Drop> {
@@ -62,13 +68,21 @@ impl<'a, W: Write + Drop> Teller<'a, W> {
     }
 
     /// Writes the line of an answer behind its sign.
-    fn write_line(&mut self, sign: char, bytes: &[u8]) -> io::Result<()>
+    fn write_line(&mut self, sign: &[u8], bytes: &[u8]) -> io::Result<()>
         ensures kept { self.new.tally ≡ self.old.tally }
         ensures names { self.new.names ≡ self.old.names }
     {
-        write!(self.out, "{sign} ")?;
+        self.out.write_all(sign)?;
         write_answer(self.alloc, self.names, bytes, &mut self.out)?;
-        writeln!(self.out)
+        self.out.write_all(b"\n")
+    }
+
+    /// Writes what became of the answer to this request, on the connection of this number.
+    fn write_head(&mut self, number: u64, what: &str, request: i32) -> io::Result<()>
+        ensures kept { self.new.tally ≡ self.old.tally }
+        ensures names { self.new.names ≡ self.old.names }
+    {
+        writeln!(self.out, "{number} {what} id {request}")
     }
 
     /// Compares the recorded answer to this request with the one that came, on the connection of
@@ -125,9 +139,9 @@ impl<'a, W: Write + Drop> Teller<'a, W> {
             return Ok(());
         }
         self.tally.different = self.tally.different.saturating_add(1);
-        writeln!(self.out, "{number} differs id {request}")?;
-        self.write_line('-', recorded)?;
-        self.write_line('+', received)
+        self.write_head(number, "differs", request)?;
+        self.write_line(RECORDED, recorded)?;
+        self.write_line(RECEIVED, received)
     }
 
     /// Tells that no answer came in the place of a recorded one.
@@ -141,8 +155,8 @@ impl<'a, W: Write + Drop> Teller<'a, W> {
         ensures names { self.new.names ≡ self.old.names }
     {
         self.tally.missing = self.tally.missing.saturating_add(1);
-        writeln!(self.out, "{number} missing id {request}")?;
-        self.write_line('-', recorded)
+        self.write_head(number, "missing", request)?;
+        self.write_line(RECORDED, recorded)
     }
 
     /// Tells an answer that came in the place of a recorded one, once that was told as missing.
@@ -156,8 +170,8 @@ impl<'a, W: Write + Drop> Teller<'a, W> {
         ensures names { self.new.names ≡ self.old.names }
     {
         self.tally.late = self.tally.late.saturating_add(1);
-        writeln!(self.out, "{number} late id {request}")?;
-        self.write_line('+', received)
+        self.write_head(number, "late", request)?;
+        self.write_line(RECEIVED, received)
     }
 
     /// Counts an answer to a request whose answer the record lacks. No line tells it.
@@ -182,8 +196,8 @@ impl<'a, W: Write + Drop> Teller<'a, W> {
         ensures names { self.new.names ≡ self.old.names }
     {
         self.tally.unexpected = self.tally.unexpected.saturating_add(1);
-        writeln!(self.out, "{number} unexpected id {request}")?;
-        self.write_line('+', received)
+        self.write_head(number, "unexpected", request)?;
+        self.write_line(RECEIVED, received)
     }
 
     /// Tells that a connection failed.

@@ -10,11 +10,11 @@ use Rattle.replay.specs.Stripped.{stripped_value}
 use Rattle.replay.proofs.Stripping.{Fields, apart_from_none, element_depth, put_stripped, put_stripped_is, stripped_array, stripped_is}
 use Rattle.replay.proofs.ignored.+stripped.Goals as goal
 
-pub stripped-returns : goal.stripped-returns
-stripped-returns t c =
+pub strip_fields-returns : goal.strip_fields-returns
+strip_fields-returns t c = λ none.
     let names : List (List ℕ) = map (λ (n : Bor (List ℕ)). n.now) c.args.names.now in
     let document = c.args.document.now in
-    ap tree_of (sym (c.loop-name.invariant.put ∙ ap (λ (l : Fields). put_stripped names l c.loop-name.left) c.in-None.ensures.steps.0)
+    ap tree_of (sym (ap (λ (l : Fields). put_stripped names document l) (sym none) ∙ c.loop-name.invariant.put ∙ ap (λ (l : Fields). put_stripped names l c.loop-name.left) c.in-None.ensures.steps.0)
     ∙ put_stripped_is names document [] c.iter-name-items.ensures.distinct (apart_from_none document))
     ∙ sym (stripped_is names document)
 
@@ -27,6 +27,6 @@ stripped_value-returns-in_ok-values-in-Array t c =
     ∙ ap (document_value kinds.Array no_code) (sym (stripped_array names 0 c.in-Array.array))
     ∙ ap (λ (v : Bson). stripped_value names (value_of v)) (sym c.in-Array.is)
 
-pub stripped_values-stripped_value-requires : goal.stripped_values-stripped_value-requires
-stripped_values-stripped_value-requires t c =
+pub strip_values-stripped_value-requires : goal.strip_values-stripped_value-requires
+strip_values-stripped_value-requires t c =
     (omega (arith, element_depth 0 c.loop-value.value-index c.args.values.now c.value-item.result c.loop-value-test.true c.value-item.is), tt)
