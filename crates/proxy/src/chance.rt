@@ -1,11 +1,13 @@
 //! Draws where connections are cut.
 
+ghost use Rattle.std.specs.Prelude.{◌≡◌, ◌≢◌};
+
 use crate::direction::Direction;
 use rand_core::utils::NextWord;
 use rand_pcg::Pcg32;
 
 /// Where a connection is cut: behind how many bytes on which way.
-#[derive(Clone, Copy, Debug, PartialEq, Eq)]
+#[derive(Clone, Copy)]
 pub struct Cut {
     pub direction: Direction,
     pub count: u64,
@@ -13,7 +15,10 @@ pub struct Cut {
 
 impl Cut {
     /// Returns how many bytes may go this way: `u64::MAX` if it is the other way that is cut.
-    pub fn left(self, direction: Direction) -> u64 {
+    pub fn left(self, direction: Direction) -> u64
+        ensures own { direction ≡ self.direction → result ≡ self.count }
+        ensures other { direction ≢ self.direction → result ≡ 18446744073709551615 }
+    {
         if direction == self.direction {
             self.count
         } else {

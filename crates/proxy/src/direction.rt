@@ -1,5 +1,8 @@
 //! Which way messages go.
 
+ghost use Rattle.std.specs.Prelude.{◌≡◌};
+ghost use Rattle.proxy.specs.Told.{word_of};
+
 /// Which way messages go.
 #[derive(Clone, Copy, Debug, PartialEq, Eq)]
 pub enum Direction {
@@ -19,7 +22,9 @@ impl Direction {
     }
 
     /// Returns the word for it.
-    pub fn word(self) -> &'static str {
+    pub fn word(self) -> &'static str
+        ensures { result.now ≡ word_of self }
+    {
         match self {
             Direction::There => "there",
             Direction::Back => "back",

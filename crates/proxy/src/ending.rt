@@ -1,11 +1,14 @@
 //! How a connection ended.
 
+ghost use Rattle.std.specs.Prelude.{◌≡◌};
+ghost use Rattle.proxy.specs.Told.{is_told, name_of};
+
 use crate::direction::Direction;
 use sockets::{IoFailure, RelayFault};
 use std::fmt;
 
 /// Who is at one end of a connection.
-#[derive(Clone, Copy, Debug, PartialEq, Eq)]
+#[derive(Clone, Copy)]
 pub enum Side {
     Client,
     Server,
@@ -13,7 +16,9 @@ pub enum Side {
 
 impl Side {
     /// Returns its name.
-    fn name(self) -> &'static str {
+    fn name(self) -> &'static str
+        ensures { result.now ≡ name_of self }
+    {
         match self {
             Side::Client => "client",
             Side::Server => "server",
@@ -22,7 +27,7 @@ impl Side {
 }
 
 /// How a connection ended.
-#[derive(Clone, Copy, Debug, PartialEq, Eq)]
+#[derive(Clone, Copy)]
 pub enum Ending {
     /// Both sides ended.
     Ended,
@@ -39,14 +44,14 @@ pub enum Ending {
 impl Ending {
     /// Returns true if it is told also where nothing is shown: the proxy ended the connection, or
     /// connecting to the server or the link to it failed.
-    pub fn is_told(self) -> bool {
-        matches!(
-            self,
-            Ending::Unconnected(_)
-                | Ending::Failed(Side::Server, _)
-                | Ending::HungUp(_)
-                | Ending::Cut(..)
-        )
+    pub fn is_told(self) -> bool
+        ensures { result ≡ is_told self }
+    {
+        match self {
+            Ending::Ended | Ending::Failed(Side::Client, _) => false,
+            Ending::Unconnected(_) | Ending::HungUp(_) | Ending::Cut(..) => true,
+            Ending::Failed(Side::Server, _) => true,
+        }
     }
 }
 

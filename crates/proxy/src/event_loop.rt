@@ -4,20 +4,14 @@
 use crate::fault::ProxyFault;
 use crate::options::Options;
 use crate::sink::Sink;
-use mio::{Events, Registry, Token};
-use sockets::Stdin;
+use mio::{Events, Registry};
+use sockets::{Stdin, watch_stdin};
 use std::alloc::Global;
 use std::io;
 use std::io::{BufRead, Input, Write};
 use std::net::Net;
 use std::rt::Files;
 use std::time::Clock;
-
-/// The token of the listener. Those of connections are smaller than that of standard input.
-pub const LISTENER: Token = Token(usize::MAX);
-
-/// The token of standard input.
-pub const STDIN: Token = Token(usize::MAX - 1);
 
 /// A proxy that waits for events and serves them.
 pub trait EventLoop {
@@ -62,6 +56,39 @@ fn serve_until<P: EventLoop, R: Net + Files + Clock, I: BufRead + Drop, W: Write
     out.flush()
 }
 
+/// Writes what was recorded to the file, and returns what came of a proxy that served so.
+fn finish<R: Files + Clock>(
+    sink: &mut Sink<'_, R>,
+    served: io::Result<()>,
+) -> Result<(), ProxyFault> {
+    match served {
+        Ok(()) => match sink.flush() {
+            Ok(()) => Ok(()),
+            Err(error) => Err(ProxyFault::RecordFile(error)),
+        },
+        Err(error) => {
+            let fault = sink.fault_of(error);
+            let _ = sink.flush();
+            Err(fault)
+        }
+    }
+}
+
+/// Does the same as `serve`, with events and a sink that are lent.
+pub(crate) fn serve_lent<P: EventLoop, R: Net + Files + Clock + Input, W: Write>(
+    rt: &R,
+    proxy: &mut P,
+    options: Options<'_>,
+    events: &mut Events<Global>,
+    sink: &mut Sink<'_, R>,
+    out: &mut W,
+) -> Result<(), ProxyFault> {
+    let mut stdin = watch_stdin(rt, options.until_stdin_closes, proxy.registry());
+    let wanted = options.connections;
+    let served = serve_until(rt, proxy, wanted, &mut stdin, events, sink, out);
+    finish(sink, served)
+}
+
 /// Serves until as many connections of clients ended as the options say, or until standard input ends,
 /// if they say so, and writes what was recorded to the file.
 ///
@@ -77,18 +104,5 @@ pub fn serve<P: EventLoop, R: Net + Files + Clock + Input, W: Write>(
     mut sink: Sink<'_, R>,
     out: &mut W,
 ) -> Result<(), ProxyFault> {
-    let reader = if options.until_stdin_closes {
-        Some(rt.reader())
-    } else {
-        None
-    };
-    let mut stdin = Stdin::new(reader, proxy.registry(), STDIN);
-    let wanted = options.connections;
-    let served = match serve_until(rt, proxy, wanted, &mut stdin, &mut events, &mut sink, out) {
-        Ok(()) => Ok(()),
-        Err(error) => Err(sink.fault_of(error)),
-    };
-    let recorded = sink.flush().map_err(ProxyFault::RecordFile);
-    served?;
-    recorded
+    serve_lent(rt, proxy, options, &mut events, &mut sink, out)
 }

@@ -1,38 +1,74 @@
 //! Why a proxy ends early.
 
+ghost use Rattle.std.specs.Prelude.{◌≡◌};
+ghost use Rattle.proxy.specs.Faults.{fault_text};
+
 use std::alloc::AllocError;
-use std::io;
+use std::{fmt, io};
 use test_script::ScriptFault;
-use thiserror::Error;
 
 /// Why a proxy ends early.
-#[derive(Debug, Drop, Error)]
+#[derive(Drop)]
 pub enum ProxyFault {
     /// The script is at fault.
-    #[error("the script is at fault: {0}")]
     Script(ScriptFault),
     /// It can't listen.
-    #[error("can't listen: {0}")]
     Listen(io::Error),
     /// The server's address can't be found.
-    #[error("the server's address: {0}")]
     Upstream(io::Error),
     /// The server's address is where the proxy listens.
-    #[error("the server's address is the proxy's own")]
     Itself,
     /// The script can't be read.
-    #[error("the script can't be read: {0}")]
     ScriptFile(io::Error),
     /// The file of the port can't be written.
-    #[error("the file of the port can't be written: {0}")]
     PortFile(io::Error),
     /// The file of records can't be written.
-    #[error("the file of records can't be written: {0}")]
     RecordFile(io::Error),
     /// Writing or waiting failed, or memory ran out.
-    #[error("{0}")]
     Io(io::Error),
 }
+
+impl ProxyFault {
+    /// Returns what the fault displays as, before what its own cause does.
+    fn text(&self) -> &'static str
+        ensures { result.now ≡ fault_text self.now }
+    {
+        match self {
+            ProxyFault::Script(_) => "the script is at fault: ",
+            ProxyFault::Listen(_) => "can't listen: ",
+            ProxyFault::Upstream(_) => "the server's address: ",
+            ProxyFault::Itself => "the server's address is the proxy's own",
+            ProxyFault::ScriptFile(_) => "the script can't be read: ",
+            ProxyFault::PortFile(_) => "the file of the port can't be written: ",
+            ProxyFault::RecordFile(_) => "the file of records can't be written: ",
+            ProxyFault::Io(_) => "",
+        }
+    }
+}
+
+impl fmt::Display for ProxyFault {
+    fn fmt<W: fmt::Write>(&self, f: &mut fmt::Formatter<W>) -> fmt::Result {
+        f.write_str(self.text())?;
+        match self {
+            ProxyFault::Script(fault) => write!(f, "{fault}"),
+            ProxyFault::Itself => Ok(()),
+            ProxyFault::Listen(error)
+            | ProxyFault::Upstream(error)
+            | ProxyFault::ScriptFile(error)
+            | ProxyFault::PortFile(error)
+            | ProxyFault::RecordFile(error)
+            | ProxyFault::Io(error) => write!(f, "{error}"),
+        }
+    }
+}
+
+impl fmt::Debug for ProxyFault {
+    fn fmt<W: fmt::Write>(&self, f: &mut fmt::Formatter<W>) -> fmt::Result {
+        fmt::Display::fmt(self, f)
+    }
+}
+
+impl std::error::Error for ProxyFault {}
 
 impl From<AllocError> for ProxyFault {
     fn from(error: AllocError) -> ProxyFault {

@@ -1,6 +1,7 @@
 //! A link whose messages are held until it is said what becomes of them.
 
-ghost use Rattle.std.specs.Prelude.{◌≡◌, ◌≢◌, ◌≤◌, ◌<◌, None, IfErr, IfOk, length};
+ghost use Rattle.std.specs.Prelude.{◌≡◌, ◌≢◌, ◌≤◌, ◌<◌, ◌↔◌, IfErr, IfOk, IsTrue, None, Some};
+ghost use Rattle.std.specs.Prelude.{false, length};
 ghost use Rattle.wire_stream.specs.{bytes_moved};
 
 use sockets::EndSending;
@@ -15,7 +16,7 @@ use wire_stream::{Link, LinkFault, Moved};
 const ROOM: usize = 65_536;
 
 /// How a link stands with its messages.
-#[derive(Clone, Copy, Debug, PartialEq, Eq)]
+#[derive(Clone, Copy)]
 enum Standing {
     /// Bytes are given as they come.
     Free,
@@ -132,7 +133,12 @@ impl<L: Link + Drop> Held<L> {
 
     /// Returns true if bytes are given as they come.
     fn is_free(&self) -> bool {
-        self.standing == Standing::Free
+        matches!(self.standing, Standing::Free)
+    }
+
+    /// Returns true if a message is whole, and it wasn't said yet what becomes of it.
+    fn is_whole(&self) -> bool {
+        matches!(self.standing, Standing::Whole)
     }
 
     /// Gives bytes that may be given, or receives a piece and gives nothing.
@@ -178,10 +184,15 @@ impl<L: Link + Drop> Held<L> {
             self.may.min(all)
         };
         let behind = self.bytes.split_off(at)?;
+        self.append(bytes, &behind)
+    }
+
+    /// Appends bytes that may be given, and those behind them.
+    fn append(&mut self, bytes: &[u8], behind: &[u8]) -> Result<(), AllocError> {
         self.bytes.extend_from_slice(bytes)?;
         self.may = self.bytes.len();
         self.again = true;
-        self.bytes.extend_from_slice(&behind)
+        self.bytes.extend_from_slice(behind)
     }
 }
 
@@ -236,7 +247,7 @@ impl<L: Link + Drop> HeldLink<L> {
     /// Returns the message that is held and whole, if it wasn't said yet what becomes of it. All
     /// bytes before it were received.
     pub fn message(&self) -> Option<RawFrame<'_>> {
-        if self.held.standing != Standing::Whole {
+        if !self.held.is_whole() {
             return None;
         }
         match RawFrame::front(self.held.rest(), MAX_MESSAGE_LEN) {
@@ -257,7 +268,7 @@ impl<L: Link + Drop> HeldLink<L> {
     pub fn pass(&mut self) {
         let size = self.size();
         self.held.may = self.held.may.saturating_add(size);
-        if self.held.standing == Standing::Whole {
+        if self.held.is_whole() {
             self.held.standing = Standing::Gathers;
         }
         self.held.again = true;
@@ -286,22 +297,32 @@ impl<L: Link + Drop> HeldLink<L> {
     }
 
     /// Returns true if more may be done at once, though the last call gave nothing.
-    pub fn has_more(&self) -> bool {
+    pub fn has_more(&self) -> bool
+        ensures { result ≡ self.now.held.again }
+    {
         self.held.again
     }
 
     /// Returns the same, and false from then on, until there is more again.
-    pub fn take_more(&mut self) -> bool {
+    pub fn take_more(&mut self) -> bool
+        ensures told { result ≡ self.old.held.again }
+        ensures once { self.new.held.again ≡ false }
+    {
         replace(&mut self.held.again, false)
     }
 
     /// Returns true if bytes that may be given weren't yet.
-    pub fn owes(&self) -> bool {
+    pub fn owes(&self) -> bool
+        ensures { IsTrue result ↔ (self.now.held.start < self.now.held.may) }
+    {
         self.held.start < self.held.may
     }
 
     /// Returns how many bytes were given, if no more are because of a cut.
-    pub fn cut_at(&self) -> Option<u64> {
+    pub fn cut_at(&self) -> Option<u64>
+        ensures cut { self.now.held.left ≡ 0 → result ≡ Some self.now.held.given }
+        ensures uncut { 0 < self.now.held.left → result ≡ None }
+    {
         if self.held.left == 0 {
             Some(self.held.given)
         } else {
@@ -310,22 +331,30 @@ impl<L: Link + Drop> HeldLink<L> {
     }
 
     /// Returns true if it told its end, so that it gives no more.
-    pub fn has_told_end(&self) -> bool {
+    pub fn has_told_end(&self) -> bool
+        ensures { IsTrue result ↔ (0 < self.now.ends) }
+    {
         self.ends > 0
     }
 
     /// Returns true if a call of it failed.
-    pub fn has_failed(&self) -> bool {
+    pub fn has_failed(&self) -> bool
+        ensures { IsTrue result ↔ (0 < self.now.failures) }
+    {
         self.failures > 0
     }
 
     /// Returns the link under it.
-    pub fn link(&self) -> &L {
+    pub fn link(&self) -> &L
+        ensures { result.now ≡ self.now.held.link }
+    {
         &self.held.link
     }
 
     /// Returns true if its sending was ended.
-    pub fn has_ended_sending(&self) -> bool {
+    pub fn has_ended_sending(&self) -> bool
+        ensures { result ≡ self.now.has_ended }
+    {
         self.has_ended
     }
 }

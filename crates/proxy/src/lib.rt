@@ -10,7 +10,7 @@
 //! seed, from which it is drawn where each connection is cut. With a script a `HeldLink` holds each
 //! message until it is whole, and `fate` asks the script.
 //!
-//! Uses sockets, test_script, wire_frames and wire_text. Used by shared_proxy and bsonwire. Read
+//! Uses sockets, test_script, wire_frames and wire_text. Used by shared_proxy and bsonproxy. Read
 //! first: `options`, `pair`, `sink`, and then `proxy`.
 #![tactic(auto)]
 
@@ -35,7 +35,7 @@ mod watch;
 
 pub use chance::{Cut, drawn_cut};
 pub use direction::Direction;
-pub use event_loop::{EventLoop, LISTENER, STDIN, serve};
+pub use event_loop::{EventLoop, serve};
 pub use fate::{Fate, fate_of};
 pub use fault::ProxyFault;
 pub use held_link::HeldLink;
@@ -43,4 +43,5 @@ pub use options::{Options, Show, Watching};
 pub use serving::{listen, read_script, run};
 pub use sink::Sink;
 pub use socket::Socket;
+pub use sockets::{LISTENER, STDIN};
 pub use watch::{Watch, Watches};

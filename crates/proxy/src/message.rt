@@ -10,6 +10,11 @@ use wire_msg::{MAX_MESSAGE_LEN, RawMsg};
 use wire_query::RawQuery;
 use wire_text::{write_frame, write_message_json};
 
+/// Writes what stands before a message that goes this way on the connection of this number.
+fn write_start<W: Write>(number: u64, direction: Direction, out: &mut W) -> io::Result<()> {
+    write!(out, "{number} {} ", direction.sign())
+}
+
 /// Writes the text of a message that goes this way on the connection of this number.
 ///
 /// # Errors
@@ -22,7 +27,7 @@ pub fn write_message<W: Write>(
     frame: RawFrame<'_>,
     out: &mut W,
 ) -> io::Result<()> {
-    write!(out, "{number} {} ", direction.sign())?;
+    write_start(number, direction, out)?;
     write_frame(alloc, frame, 0, out)
 }
 
@@ -83,7 +88,7 @@ pub fn write_json_line<W: Write>(
     frame: RawFrame<'_>,
     out: &mut W,
 ) -> io::Result<()> {
-    write!(out, "{number} {} ", direction.sign())?;
+    write_start(number, direction, out)?;
     match frame.opcode() {
         Opcode::Msg => write_op_msg(alloc, frame, out),
         Opcode::Query | Opcode::Reply | Opcode::Compressed | Opcode::Other(_) => {

@@ -1,7 +1,10 @@
 //! What a proxy is to do.
 
+ghost use Rattle.std.specs.Prelude.{◌≡◌, ◌||◌, is_some};
+ghost use Rattle.proxy.specs.Told.{shows};
+
 /// How the messages that pass are shown.
-#[derive(Clone, Copy, Debug, PartialEq, Eq)]
+#[derive(Clone, Copy)]
 pub enum Show {
     /// Not at all.
     Nothing,
@@ -12,7 +15,7 @@ pub enum Show {
 }
 
 /// What a proxy is to do.
-#[derive(Clone, Copy, Debug, PartialEq, Eq)]
+#[derive(Clone, Copy)]
 pub struct Options<'a> {
     /// The address to listen at.
     pub listen: &'a str,
@@ -40,7 +43,7 @@ pub struct Options<'a> {
 }
 
 /// What is told of connections beside their faults.
-#[derive(Clone, Copy, Debug, PartialEq, Eq)]
+#[derive(Clone, Copy)]
 pub struct Watching {
     /// It is told that they are new, and how they ended.
     pub told: bool,
@@ -48,10 +51,25 @@ pub struct Watching {
     pub watched: bool,
 }
 
+impl Show {
+    /// Returns true if messages are shown.
+    pub(crate) fn shows(self) -> bool
+        ensures { result ≡ shows self }
+    {
+        match self {
+            Show::Nothing => false,
+            Show::Text | Show::Json => true,
+        }
+    }
+}
+
 impl Options<'_> {
     /// Returns what is told of connections.
-    pub fn watching(self) -> Watching {
-        let told = self.show != Show::Nothing;
+    pub fn watching(self) -> Watching
+        ensures told { result.told ≡ shows self.entry.show }
+        ensures watched { result.watched ≡ (shows self.entry.show || is_some self.entry.record) }
+    {
+        let told = self.show.shows();
         Watching {
             told,
             watched: told || self.record.is_some(),

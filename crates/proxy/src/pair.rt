@@ -26,7 +26,7 @@ struct Mark {
 }
 
 /// What a turn came to.
-#[derive(Clone, Copy, Debug, PartialEq, Eq)]
+#[derive(Clone, Copy)]
 pub enum Outcome {
     /// There may be more to do.
     Again,
@@ -64,7 +64,7 @@ pub struct Pair {
 }
 
 impl Pair {
-    /// Makes the pair of this number.
+    /// Makes the pair of this number, whose messages are shown or recorded if `watched` is true.
     ///
     /// # Errors
     ///
@@ -74,7 +74,7 @@ impl Pair {
         number: u64,
         near: HeldLink<Socket>,
         far: HeldLink<Socket>,
-        watches: Option<Watches>,
+        watched: bool,
     ) -> Result<Pair, AllocError> {
         let relay = Relay::new(alloc, near, far)?;
         Ok(Pair {
@@ -82,7 +82,7 @@ impl Pair {
             number,
             relay,
             connecting: true,
-            watches,
+            watches: Watches::if_wanted(alloc, number, watched),
             marks: Vec::new(alloc),
             delayed: false,
         })
@@ -175,6 +175,20 @@ impl Pair {
         }
     }
 
+    /// Lets go of the reply that is held, which has this size, and answers this request.
+    fn drop_reply<R: Files + Clock, W: Write>(
+        &mut self,
+        size: usize,
+        to: i32,
+        sink: &mut Sink<'_, R>,
+        out: &mut W,
+    ) -> io::Result<()> {
+        self.show(self.relay.far(), Direction::Back, 0, sink, out)?;
+        writeln!(out, "{} drop {size} to {to}", self.number)?;
+        self.relay.far_mut().skip();
+        Ok(())
+    }
+
     /// Does with a reply that is held, if one is, what the rule says that its request met.
     fn steer_reply<R: Files + Clock, W: Write>(
         &mut self,
@@ -191,13 +205,59 @@ impl Pair {
                 self.show(self.relay.far(), Direction::Back, count, sink, out)?;
                 self.relay.far_mut().cut(count);
             }
-            Flow::Dropped => {
-                self.show(self.relay.far(), Direction::Back, 0, sink, out)?;
-                writeln!(out, "{} drop {size} to {to}", self.number)?;
-                self.relay.far_mut().skip();
-            }
+            Flow::Dropped => return self.drop_reply(size, to, sink, out),
         }
         Ok(())
+    }
+
+    /// Gives these bytes to the client in the place of the request that is held, to which they reply.
+    fn reply<R: Files + Clock, W: Write>(
+        &mut self,
+        id: i32,
+        bytes: &[u8],
+        sink: &mut Sink<'_, R>,
+        out: &mut W,
+    ) -> io::Result<()> {
+        self.show(self.relay.near(), Direction::There, 0, sink, out)?;
+        self.relay.near_mut().skip();
+        // Behind the server's end nothing is given to the client any more.
+        if self.relay.far().has_told_end() {
+            return Ok(());
+        }
+        writeln!(out, "{} reply to {id}", self.number)?;
+        Ok(self.relay.far_mut().put(bytes)?)
+    }
+
+    /// Does with the request that is held, and has this id, what becomes of it. Returns what the turn
+    /// comes to, if it is over.
+    fn meet_fate<R: Files + Clock, W: Write>(
+        &mut self,
+        id: i32,
+        fate: &Fate,
+        sink: &mut Sink<'_, R>,
+        out: &mut W,
+    ) -> io::Result<Option<Outcome>> {
+        match fate {
+            Fate::Pass(flow) => {
+                self.mark(id, *flow)?;
+                self.relay.near_mut().pass();
+            }
+            Fate::Delay(millis) => {
+                writeln!(out, "{} delay {millis} id {id}", self.number)?;
+                self.delayed = true;
+                return Ok(Some(Outcome::Held(*millis)));
+            }
+            Fate::HangUp => {
+                self.show(self.relay.near(), Direction::There, 0, sink, out)?;
+                return Ok(Some(Outcome::Over(Ending::HungUp(id))));
+            }
+            Fate::CutUp(count) => {
+                self.show(self.relay.near(), Direction::There, *count, sink, out)?;
+                self.relay.near_mut().cut(*count);
+            }
+            Fate::Reply(bytes) => self.reply(id, bytes, sink, out)?,
+        }
+        Ok(None)
     }
 
     /// Does with a request that is held, if one is, what the script says. Returns what the turn
@@ -208,42 +268,12 @@ impl Pair {
         sink: &mut Sink<'_, R>,
         out: &mut W,
     ) -> io::Result<Option<Outcome>> {
-        let (id, fate) = match self.relay.near().message() {
-            Some(frame) => (frame.header().id, fate_of(self.alloc, script, frame)?),
-            None => return Ok(None),
+        let Some(frame) = self.relay.near().message() else {
+            return Ok(None);
         };
-        let number = self.number;
-        match fate {
-            Fate::Pass(flow) => {
-                self.mark(id, flow)?;
-                self.relay.near_mut().pass();
-                Ok(None)
-            }
-            Fate::Delay(millis) => {
-                writeln!(out, "{number} delay {millis} id {id}")?;
-                self.delayed = true;
-                Ok(Some(Outcome::Held(millis)))
-            }
-            Fate::HangUp => {
-                self.show(self.relay.near(), Direction::There, 0, sink, out)?;
-                Ok(Some(Outcome::Over(Ending::HungUp(id))))
-            }
-            Fate::CutUp(count) => {
-                self.show(self.relay.near(), Direction::There, count, sink, out)?;
-                self.relay.near_mut().cut(count);
-                Ok(None)
-            }
-            Fate::Reply(bytes) => {
-                self.show(self.relay.near(), Direction::There, 0, sink, out)?;
-                self.relay.near_mut().skip();
-                // Behind the server's end nothing is given to the client any more.
-                if !self.relay.far().has_told_end() {
-                    writeln!(out, "{number} reply to {id}")?;
-                    self.relay.far_mut().put(&bytes)?;
-                }
-                Ok(None)
-            }
-        }
+        let id = frame.header().id;
+        let fate = fate_of(self.alloc, script, frame)?;
+        self.meet_fate(id, &fate, sink, out)
     }
 
     /// Returns true if more may be done at once, though no byte could be passed. It is told once: a
@@ -259,6 +289,44 @@ impl Pair {
         !self.delayed && (!self.relay.far().owes() || self.relay.far().has_told_end())
     }
 
+    /// Does with each message that is whole what the script says. Returns what the turn comes to, if
+    /// it is over.
+    fn steer<R: Files + Clock, W: Write>(
+        &mut self,
+        script: &mut Script,
+        sink: &mut Sink<'_, R>,
+        out: &mut W,
+    ) -> io::Result<Option<Outcome>> {
+        self.steer_reply(sink, out)?;
+        if self.may_steer() {
+            self.steer_request(script, sink, out)
+        } else {
+            Ok(None)
+        }
+    }
+
+    /// Takes a step, and does with each message that is whole then what the script says.
+    fn step_by<R: Files + Clock, W: Write>(
+        &mut self,
+        script: &mut Script,
+        sink: &mut Sink<'_, R>,
+        out: &mut W,
+    ) -> io::Result<Outcome> {
+        let turned = self.step(sink, out)?;
+        let outcome = self.outcome(turned);
+        if let Outcome::Over(_) = outcome {
+            return Ok(outcome);
+        }
+        if let Some(over) = self.steer(script, sink, out)? {
+            return Ok(over);
+        }
+        if self.take_more() {
+            Ok(Outcome::Again)
+        } else {
+            Ok(outcome)
+        }
+    }
+
     /// Takes a turn in single steps, and does with each message that is whole then what the script
     /// says.
     fn turn_by<R: Files + Clock, W: Write>(
@@ -268,19 +336,9 @@ impl Pair {
         out: &mut W,
     ) -> io::Result<Outcome> {
         for _ in 0..STEPS {
-            let turned = self.step(sink, out)?;
-            let outcome = self.outcome(turned);
-            if let Outcome::Over(_) = outcome {
-                return Ok(outcome);
-            }
-            self.steer_reply(sink, out)?;
-            if self.may_steer()
-                && let Some(outcome) = self.steer_request(script, sink, out)?
-            {
-                return Ok(outcome);
-            }
-            if !self.take_more() && outcome == Outcome::Waits {
-                return Ok(Outcome::Waits);
+            match self.step_by(script, sink, out)? {
+                Outcome::Again => {}
+                outcome => return Ok(outcome),
             }
         }
         Ok(Outcome::Again)
@@ -295,9 +353,9 @@ impl Pair {
     ) -> io::Result<Outcome> {
         for _ in 0..STEPS {
             let turned = self.step(sink, out)?;
-            let outcome = self.outcome(turned);
-            if outcome != Outcome::Again {
-                return Ok(outcome);
+            match self.outcome(turned) {
+                Outcome::Again => {}
+                outcome => return Ok(outcome),
             }
         }
         Ok(Outcome::Again)
@@ -306,16 +364,37 @@ impl Pair {
     /// Returns what a turn comes to before the connection to the server stands, and `None` where it
     /// does. Until then nothing is moved, and no end is passed on, which would break it off.
     fn connect(&mut self) -> Option<Outcome> {
-        if self.connecting {
-            match self.relay.far().link().is_connected() {
-                Ok(connected) => self.connecting = !connected,
-                Err(error) => {
-                    let failure = IoFailure::of(&error);
-                    return Some(Outcome::Over(Ending::Unconnected(failure)));
-                }
+        if !self.connecting {
+            return None;
+        }
+        match self.relay.far().link().is_connected() {
+            Ok(true) => {
+                self.connecting = false;
+                None
+            }
+            Ok(false) => Some(Outcome::Waits),
+            Err(error) => {
+                let failure = IoFailure::of(&error);
+                Some(Outcome::Over(Ending::Unconnected(failure)))
             }
         }
-        self.connecting.then_some(Outcome::Waits)
+    }
+
+    /// Takes a turn where both connections stand.
+    fn turn_standing<R: Files + Clock, W: Write>(
+        &mut self,
+        script: Option<&mut Script>,
+        sink: &mut Sink<'_, R>,
+        out: &mut W,
+    ) -> io::Result<Outcome> {
+        match script {
+            Some(script) => self.turn_by(script, sink, out),
+            None if self.watches.is_some() => self.turn_watched(sink, out),
+            None => {
+                let turned = self.relay.turn(STEPS, &mut NoTap, &mut NoTap);
+                Ok(self.outcome(turned))
+            }
+        }
     }
 
     /// Takes a turn, and gives the messages that are whole then to the sink.
@@ -332,15 +411,7 @@ impl Pair {
         if let Some(outcome) = self.connect() {
             return Ok(outcome);
         }
-        let outcome = match script {
-            Some(script) => self.turn_by(script, sink, out)?,
-            None if self.watches.is_some() => self.turn_watched(sink, out)?,
-            None => {
-                let turned = self.relay.turn(STEPS, &mut NoTap, &mut NoTap);
-                self.outcome(turned)
-            }
-        };
-        match outcome {
+        match self.turn_standing(script, sink, out)? {
             Outcome::Over(Ending::Failed(_, fault)) if wants_memory(fault) => {
                 Err(io::Error::from(ErrorKind::OutOfMemory))
             }

@@ -1,5 +1,8 @@
 //! The pairs of connections, by their keys.
 
+ghost use Rattle.std.specs.Prelude.{◌≡◌};
+ghost use Rattle.slab.specs.Slab.{slab_len};
+
 use crate::chance::drawn_cut;
 use crate::direction::Direction;
 use crate::ending::Ending;
@@ -8,7 +11,7 @@ use crate::options::Watching;
 use crate::pair::{Outcome, Pair};
 use crate::sink::Sink;
 use crate::socket::Socket;
-use crate::watch::Watches;
+use mio::net::TcpStream;
 use slab::Slab;
 use sockets::{Delays, IoFailure};
 use std::alloc::{AllocError, Global};
@@ -63,12 +66,16 @@ impl Pairs {
     }
 
     /// Returns how many there are.
-    pub fn len(&self) -> usize {
+    pub fn len(&self) -> usize
+        ensures { result ≡ slab_len self.now.pairs }
+    {
         self.pairs.len()
     }
 
     /// Returns how many ended.
-    pub fn ended(&self) -> u64 {
+    pub fn ended(&self) -> u64
+        ensures { result ≡ self.now.ended }
+    {
         self.ended
     }
 
@@ -78,27 +85,57 @@ impl Pairs {
     }
 
     /// Returns the key that the next pair has.
-    pub fn next_key(&self) -> usize {
+    pub fn next_key(&self) -> usize
+        ensures { result ≡ self.now.pairs.vacant_key }
+    {
         self.pairs.vacant_key()
     }
 
-    /// Returns the link over a socket of the connection of this number. Bytes that come over it go
+    /// Returns how many bytes of the connection of this number may go this way.
+    fn left(&self, number: u64, direction: Direction) -> u64 {
+        match self.faults.seed {
+            Some(seed) => drawn_cut(seed, number).left(direction),
+            None => u64::MAX,
+        }
+    }
+
+    /// Has a link hold its messages, if a script says what becomes of them.
+    fn hold(&self, link: &mut HeldLink<Socket>) -> Result<(), AllocError> {
+        if self.faults.script.is_some() {
+            link.hold(self.alloc)
+        } else {
+            Ok(())
+        }
+    }
+
+    /// Returns the link over a stream of the connection of this number. Bytes that come over it go
     /// this way.
     fn link(
         &self,
         number: u64,
-        socket: Socket,
+        stream: TcpStream,
         direction: Direction,
     ) -> Result<HeldLink<Socket>, AllocError> {
-        let left = match self.faults.seed {
-            Some(seed) => drawn_cut(seed, number).left(direction),
-            None => u64::MAX,
-        };
-        let mut link = HeldLink::new(self.alloc, socket, left);
-        if self.faults.script.is_some() {
-            link.hold(self.alloc)?;
-        }
+        let socket = Socket::new(self.alloc, stream)?;
+        let mut link = HeldLink::new(self.alloc, socket, self.left(number, direction));
+        self.hold(&mut link)?;
         Ok(link)
+    }
+
+    /// Makes the pair of this number.
+    fn pair(&self, number: u64, near: TcpStream, far: TcpStream) -> Result<Pair, AllocError> {
+        let near = self.link(number, near, Direction::There)?;
+        let far = self.link(number, far, Direction::Back)?;
+        Pair::new(self.alloc, number, near, far, self.watching.watched)
+    }
+
+    /// Writes that the connection of this number is new, if that is told.
+    fn tell_new<W: Write>(&self, number: u64, out: &mut W) -> io::Result<()> {
+        if self.watching.told {
+            writeln!(out, "{number} new")
+        } else {
+            Ok(())
+        }
     }
 
     /// Passes bytes between two connections from now on, and writes that they are new, if that is
@@ -107,16 +144,15 @@ impl Pairs {
     /// # Errors
     ///
     /// Returns an error if memory runs out, where both are closed, or if writing fails.
-    pub fn open<W: Write>(&mut self, near: Socket, far: Socket, out: &mut W) -> io::Result<()> {
+    pub fn open<W: Write>(
+        &mut self,
+        near: TcpStream,
+        far: TcpStream,
+        out: &mut W,
+    ) -> io::Result<()> {
         let number = self.opened.saturating_add(1);
-        let near = self.link(number, near, Direction::There)?;
-        let far = self.link(number, far, Direction::Back)?;
-        let watches = Watches::new(self.alloc, number);
-        let watches = self.watching.watched.then_some(watches);
-        let pair = Pair::new(self.alloc, number, near, far, watches)?;
-        if self.watching.told {
-            writeln!(out, "{number} new")?;
-        }
+        let pair = self.pair(number, near, far)?;
+        self.tell_new(number, out)?;
         let _ = self.pairs.insert(pair)?;
         self.opened = number;
         Ok(())
@@ -132,18 +168,15 @@ impl Pairs {
         let number = self.opened.saturating_add(1);
         self.opened = number;
         self.ended = self.ended.saturating_add(1);
-        if self.watching.told {
-            writeln!(out, "{number} new")?;
-        }
+        self.tell_new(number, out)?;
         writeln!(out, "{number} failed: connecting: {failure}")
     }
 
     /// Notes that a pair is to take another turn.
-    fn take_up(&mut self, key: usize) -> Result<(), AllocError> {
-        if self.again.contains(&key) {
-            return Ok(());
+    fn take_up(&mut self, key: usize) -> io::Result<()> {
+        if !self.again.contains(&key) {
+            self.again.push_back(key)?;
         }
-        self.again.push_back(key)?;
         Ok(())
     }
 
@@ -173,11 +206,11 @@ impl Pairs {
             return Ok(());
         };
         match pair.turn(self.faults.script.as_mut(), sink, out)? {
-            Outcome::Again => Ok(self.take_up(key)?),
+            Outcome::Again => self.take_up(key),
             Outcome::Waits => Ok(()),
             Outcome::Held(millis) => {
                 self.delays.hold(clock, key, millis)?;
-                Ok(self.take_up(key)?)
+                self.take_up(key)
             }
             Outcome::Over(ending) => self.close(key, ending, out),
         }

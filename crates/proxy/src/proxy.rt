@@ -1,13 +1,13 @@
 //! Accepts connections, and passes their bytes to a server and back.
 
-use crate::event_loop::{EventLoop, LISTENER, STDIN};
-use crate::options::Options;
-use crate::pairs::{Faults, Pairs, ROOM};
+ghost use Rattle.std.specs.Prelude.{◌≡◌};
+
+use crate::event_loop::EventLoop;
+use crate::pairs::{Pairs, ROOM};
 use crate::sink::Sink;
-use crate::socket::Socket;
-use mio::net::{TcpListener, TcpStream};
+use mio::net::TcpStream;
 use mio::{Events, Registry, Token};
-use sockets::{ACCEPTS, Acceptor, IoFailure};
+use sockets::{ACCEPTS, Acceptor, IoFailure, LISTENER, STDIN};
 use std::alloc::Global;
 use std::io;
 use std::io::Write;
@@ -25,94 +25,104 @@ const EMFILE: i32 = 24;
 
 const ENOBUFS: i32 = 105;
 
-/// Returns true if the system tells that it has nothing left for one more connection.
-fn leaves_none(error: &io::Error) -> bool {
-    matches!(
-        error.raw_os_error(),
-        Some(ENOMEM | ENFILE | EMFILE | ENOBUFS)
-    )
+/// Returns true if the system tells by an error of this number that it has nothing left for one more
+/// connection.
+fn leaves_none(code: Option<i32>) -> bool {
+    matches!(code, Some(ENOMEM | ENFILE | EMFILE | ENOBUFS))
+}
+
+/// Why there is no connection to the server for one that came.
+#[derive(Clone, Copy)]
+enum Unreached {
+    /// The system has nothing left for it, which may be otherwise after a pause.
+    NoneLeft(IoFailure),
+    /// Connecting failed.
+    Refused(IoFailure),
+}
+
+/// Returns what it means for a connection that came that connecting to the server failed so.
+fn why_unreached(error: &io::Error) -> Unreached {
+    let failure = IoFailure::of(error);
+    if leaves_none(error.raw_os_error()) {
+        Unreached::NoneLeft(failure)
+    } else {
+        Unreached::Refused(failure)
+    }
 }
 
 /// What accepts connections, the address of the server, and the pairs of connections. The tokens of
 /// the connections of a pair are twice its key, and one more.
 #[derive(Drop)]
 pub struct Proxy {
-    alloc: Global,
     acceptor: Acceptor,
     upstream: SocketAddr,
     pairs: Pairs,
 }
 
 impl Proxy {
-    /// Begins to accept as many connections at `listener` as the options say. They go to the server
-    /// at `upstream`.
-    ///
-    /// # Errors
-    ///
-    /// Returns why the listener can't be registered.
-    pub fn new(
-        net: &impl Net,
-        alloc: Global,
-        listener: TcpListener,
-        upstream: SocketAddr,
-        options: Options<'_>,
-        faults: Faults,
-    ) -> io::Result<Proxy> {
-        Ok(Proxy {
-            alloc,
-            acceptor: Acceptor::new(net, listener, LISTENER, options.connections)?,
+    /// Makes the proxy of the connections that come to `acceptor`, which go to the server at
+    /// `upstream`.
+    pub fn new(acceptor: Acceptor, upstream: SocketAddr, pairs: Pairs) -> Proxy
+        ensures upstream { result.upstream ≡ upstream }
+        ensures pairs { result.pairs ≡ pairs }
+    {
+        Proxy {
+            acceptor,
             upstream,
-            pairs: Pairs::new(alloc, options.watching(), faults),
-        })
+            pairs,
+        }
     }
 
-    /// Takes a connection back that came, since the system can't serve it now.
-    fn take_back(&mut self, near: TcpStream, error: &io::Error) -> io::Result<()> {
-        self.acceptor.take_back(near, IoFailure::of(error));
-        Ok(())
+    /// Registers a connection to the server under this token.
+    fn register(&self, far: TcpStream, token: usize) -> Result<TcpStream, Unreached> {
+        let mut far = far;
+        match self.acceptor.register(&mut far, token) {
+            Ok(()) => Ok(far),
+            Err(error) => Err(Unreached::NoneLeft(IoFailure::of(&error))),
+        }
     }
 
-    /// Passes bytes between a connection that came and one to the server. If that can't be registered,
-    /// under this token, it is closed, and the one that came is taken back.
-    fn join<W: Write>(
+    /// Connects to the server, and registers the connection under this token.
+    fn connect(&self, net: &impl Net, token: usize) -> Result<TcpStream, Unreached> {
+        match TcpStream::connect(net, self.upstream) {
+            Ok(far) => self.register(far, token),
+            Err(error) => Err(why_unreached(&error)),
+        }
+    }
+
+    /// Connects to the server for a connection that came, and passes bytes between the two. If the
+    /// system has nothing left for that, the connection is taken back, and it is tried again after a
+    /// pause. If connecting fails else, the connection is closed, and others are served.
+    fn open<W: Write>(
         &mut self,
+        net: &impl Net,
         near: TcpStream,
-        far: TcpStream,
         token: usize,
         out: &mut W,
     ) -> io::Result<()> {
-        let mut far = far;
-        if let Err(error) = self.acceptor.register(&mut far, token) {
-            return self.take_back(near, &error);
+        match self.connect(net, token) {
+            Ok(far) => self.pairs.open(near, far, out),
+            Err(Unreached::NoneLeft(failure)) => {
+                self.acceptor.take_back(near, failure);
+                Ok(())
+            }
+            Err(Unreached::Refused(failure)) => self.pairs.refuse(failure, out),
         }
-        let near = Socket::new(self.alloc, near)?;
-        let far = Socket::new(self.alloc, far)?;
-        self.pairs.open(near, far, out)
     }
 
-    /// Registers a connection that came, and connects to the server for it. If the system has nothing
-    /// left for one of these, that is tried again after a pause. If connecting fails else, the
-    /// connection is closed, and others are served.
-    fn open<W: Write>(&mut self, net: &impl Net, near: TcpStream, out: &mut W) -> io::Result<()> {
-        let mut near = near;
+    /// Accepts a connection and opens it, if one waits. One that can't be registered is taken back.
+    fn accept_one<W: Write>(&mut self, net: &impl Net, out: &mut W) -> io::Result<()> {
         let token = self.pairs.next_key().saturating_mul(2);
-        if let Err(error) = self.acceptor.register(&mut near, token) {
-            return self.take_back(near, &error);
-        }
-        match TcpStream::connect(net, self.upstream) {
-            Ok(far) => self.join(near, far, token | 1, out),
-            Err(error) if leaves_none(&error) => self.take_back(near, &error),
-            Err(error) => self.pairs.refuse(IoFailure::of(&error), out),
+        match self.acceptor.accept_under(self.pairs.len() < ROOM, token) {
+            Some(near) => self.open(net, near, token | 1, out),
+            None => Ok(()),
         }
     }
 
     /// Accepts connections, until none waits, and no more than `ACCEPTS`.
     fn accept_some<W: Write>(&mut self, net: &impl Net, out: &mut W) -> io::Result<()> {
         for _ in 0..ACCEPTS {
-            match self.acceptor.accept(self.pairs.len() < ROOM) {
-                Some(stream) => self.open(net, stream, out)?,
-                None => break,
-            }
+            self.accept_one(net, out)?;
             if !self.acceptor.is_ready() {
                 break;
             }

@@ -1,5 +1,7 @@
 //! Appends records of the messages that pass to a file.
 
+ghost use Rattle.std.specs.Prelude.{◌≡◌, is_none};
+
 use crate::direction::Direction;
 use crate::record_buf::{RecordBuf, recorded_number};
 use std::alloc::Global;
@@ -62,7 +64,9 @@ impl<'r, R: Files + Clock> Recorder<'r, R> {
     }
 
     /// Returns true if a record didn't fit, so that none is appended any more.
-    pub fn is_full(&self) -> bool {
+    pub fn is_full(&self) -> bool
+        ensures { result ≡ is_none self.now.waiting.left }
+    {
         self.waiting.left.is_none()
     }
 
@@ -110,7 +114,9 @@ impl<'r, R: Files + Clock> Recorder<'r, R> {
     }
 
     /// Returns true if the file couldn't be written the last time.
-    pub(crate) fn has_failed(&self) -> bool {
+    pub(crate) fn has_failed(&self) -> bool
+        ensures { result ≡ self.now.failed }
+    {
         self.failed
     }
 }

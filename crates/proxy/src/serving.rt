@@ -1,22 +1,21 @@
 //! Runs a proxy, from its first line until enough connections ended, or standard input.
 
-use crate::event_loop::serve;
+use crate::event_loop::serve_lent;
 use crate::fault::ProxyFault;
 use crate::options::Options;
-use crate::pairs::Faults;
+use crate::pairs::{Faults, Pairs};
 use crate::proxy::Proxy;
 use crate::sink::Sink;
 use mio::Events;
 use mio::net::{TcpListener, UdpSocket};
-use sockets::{EVENTS, address_of};
+use sockets::{Acceptor, EVENTS, LISTENER, address_of, bind, tell_listening, tell_port};
 use std::alloc::Global;
-use std::fs::File;
 use std::io::{BufWriter, ErrorKind, Input, Write};
 use std::net::{IpAddr, Ipv4Addr, Ipv6Addr, Net, SocketAddr};
 use std::rt::Files;
 use std::time::Clock;
 use std::{fs, io};
-use test_script::{Cause, Script};
+use test_script::{Cause, Script, ScriptFault};
 
 /// Returns the address that a connection to this one comes to: of all addresses the loopback one.
 fn reached(address: IpAddr) -> IpAddr {
@@ -27,15 +26,19 @@ fn reached(address: IpAddr) -> IpAddr {
     }
 }
 
+/// Returns the address from which a socket sends to another one. No packet is sent.
+fn sent_from(socket: &UdpSocket, address: IpAddr) -> io::Result<IpAddr> {
+    socket.connect(SocketAddr::new(address, 9))?;
+    Ok(socket.local_addr()?.ip())
+}
+
 /// Returns the address from which this machine sends to another one. No packet is sent.
 fn sender<R: Net>(rt: &R, address: IpAddr) -> io::Result<IpAddr> {
     let any = match address {
         IpAddr::V4(_) => IpAddr::V4(Ipv4Addr::UNSPECIFIED),
         IpAddr::V6(_) => IpAddr::V6(Ipv6Addr::UNSPECIFIED),
     };
-    let socket = UdpSocket::bind(rt, SocketAddr::new(any, 0))?;
-    socket.connect(SocketAddr::new(address, 9))?;
-    Ok(socket.local_addr()?.ip())
+    sent_from(&UdpSocket::bind(rt, SocketAddr::new(any, 0))?, address)
 }
 
 /// Returns true if this machine has the address, so that it sends to it from there.
@@ -51,17 +54,20 @@ fn meets<R: Net>(rt: &R, address: SocketAddr, local: SocketAddr) -> bool {
     address.port() == local.port() && (far == near || is_all && is_own(rt, far))
 }
 
-/// Writes the port to a file.
-fn write_port<R: Files>(rt: &R, file: &str, port: u16) -> io::Result<()> {
-    writeln!(File::create(rt, file)?, "{port}")
+/// Returns the fault of a proxy whose script has this one.
+fn fault_of(fault: ScriptFault) -> ProxyFault {
+    match fault.cause {
+        Cause::OutOfMemory => ProxyFault::Io(io::Error::from(ErrorKind::OutOfMemory)),
+        _ => ProxyFault::Script(fault),
+    }
 }
 
-/// Writes the port to the file, if one is given.
-fn tell_port<R: Files>(rt: &R, file: Option<&str>, port: u16) -> Result<(), ProxyFault> {
-    let Some(file) = file else {
-        return Ok(());
-    };
-    write_port(rt, file, port).map_err(ProxyFault::PortFile)
+/// Reads the text of a script.
+fn script_of(alloc: Global, text: &[u8]) -> Result<Option<Script>, ProxyFault> {
+    match Script::parse(alloc, text) {
+        Ok(script) => Ok(Some(script)),
+        Err(fault) => Err(fault_of(fault)),
+    }
 }
 
 /// Reads the script, if a file of one is given.
@@ -78,19 +84,68 @@ pub fn read_script<R: Files + Alloc>(
     let Some(file) = file else {
         return Ok(None);
     };
-    let text = fs::read(rt, file).map_err(ProxyFault::ScriptFile)?;
-    match Script::parse(alloc, &text) {
-        Ok(script) => Ok(Some(script)),
-        Err(fault) if fault.cause == Cause::OutOfMemory => {
-            Err(ProxyFault::Io(io::Error::from(ErrorKind::OutOfMemory)))
-        }
-        Err(fault) => Err(ProxyFault::Script(fault)),
+    match fs::read(rt, file) {
+        Ok(text) => script_of(alloc, &text),
+        Err(error) => Err(ProxyFault::ScriptFile(error)),
     }
 }
 
-/// Begins to listen at the address that `address` names.
-fn bind<R: Net>(rt: &R, address: &str) -> io::Result<TcpListener> {
-    TcpListener::bind(rt, address_of(rt, address)?)
+/// Writes to `out` where the proxy listens, and the port to the file, if one is given.
+fn tell<R: Files, W: Write>(
+    rt: &R,
+    file: Option<&str>,
+    local: SocketAddr,
+    out: &mut W,
+) -> Result<(), ProxyFault> {
+    tell_listening(local, out)?;
+    match tell_port(rt, file, local.port()) {
+        Ok(()) => Ok(()),
+        Err(error) => Err(ProxyFault::PortFile(error)),
+    }
+}
+
+/// Finds the addresses of the server and of the listener, which have to be two.
+fn find_addresses<R: Net>(
+    rt: &R,
+    server: &str,
+    listener: &TcpListener,
+) -> Result<(SocketAddr, SocketAddr), ProxyFault> {
+    let upstream = match address_of(rt, server) {
+        Ok(upstream) => upstream,
+        Err(error) => return Err(ProxyFault::Upstream(error)),
+    };
+    let local = listener.local_addr()?;
+    if meets(rt, upstream, local) {
+        Err(ProxyFault::Itself)
+    } else {
+        Ok((upstream, local))
+    }
+}
+
+/// Makes what shows and records messages.
+fn make_sink<'r, R: Files + Clock>(
+    rt: &'r R,
+    alloc: Global,
+    options: Options<'_>,
+) -> Result<Sink<'r, R>, ProxyFault> {
+    match Sink::new(rt, alloc, options) {
+        Ok(sink) => Ok(sink),
+        Err(error) => Err(ProxyFault::RecordFile(error)),
+    }
+}
+
+/// Finds the server, creates the file of records, and tells where `listener` is.
+fn begin<'r, R: Net + Files + Clock, W: Write>(
+    rt: &'r R,
+    alloc: Global,
+    options: Options<'_>,
+    listener: &TcpListener,
+    out: &mut W,
+) -> Result<(SocketAddr, Sink<'r, R>), ProxyFault> {
+    let (upstream, local) = find_addresses(rt, options.upstream, listener)?;
+    let sink = make_sink(rt, alloc, options)?;
+    tell(rt, options.port_file, local, out)?;
+    Ok((upstream, sink))
 }
 
 /// Listens where the options say, creates the file of records, and writes to `out` where it
@@ -108,17 +163,40 @@ pub fn listen<'r, R: Net + Files + Clock, W: Write>(
     options: Options<'_>,
     out: &mut W,
 ) -> Result<(TcpListener, SocketAddr, Sink<'r, R>), ProxyFault> {
-    let listener = bind(rt, options.listen).map_err(ProxyFault::Listen)?;
-    let upstream = address_of(rt, options.upstream).map_err(ProxyFault::Upstream)?;
-    let local = listener.local_addr()?;
-    if meets(rt, upstream, local) {
-        return Err(ProxyFault::Itself);
-    }
-    let sink = Sink::new(rt, alloc, options).map_err(ProxyFault::RecordFile)?;
-    writeln!(out, "listening {local}")?;
-    out.flush()?;
-    tell_port(rt, options.port_file, local.port())?;
+    let listener = match bind(rt, options.listen) {
+        Ok(listener) => listener,
+        Err(error) => return Err(ProxyFault::Listen(error)),
+    };
+    let (upstream, sink) = begin(rt, alloc, options, &listener, out)?;
     Ok((listener, upstream, sink))
+}
+
+/// Listens, and passes connections to the server, with these faults.
+fn serve_pairs<R: Net + Files + Clock + Input, W: Write>(
+    rt: &R,
+    alloc: Global,
+    options: Options<'_>,
+    faults: Faults,
+    events: &mut Events<Global>,
+    out: &mut W,
+) -> Result<(), ProxyFault> {
+    let (listener, upstream, mut sink) = listen(rt, alloc, options, out)?;
+    let acceptor = Acceptor::new(rt, listener, LISTENER, options.connections)?;
+    let pairs = Pairs::new(alloc, options.watching(), faults);
+    let mut proxy = Proxy::new(acceptor, upstream, pairs);
+    serve_lent(rt, &mut proxy, options, events, &mut sink, out)
+}
+
+/// Makes room for events, and serves with these faults.
+fn serve_faults<R: Net + Files + Clock + Input, W: Write>(
+    rt: &R,
+    alloc: Global,
+    options: Options<'_>,
+    faults: Faults,
+    out: &mut W,
+) -> Result<(), ProxyFault> {
+    let mut events = Events::with_capacity(alloc, EVENTS)?;
+    serve_pairs(rt, alloc, options, faults, &mut events, out)
 }
 
 /// Listens where the options say, and passes connections to the server until as many of them ended
@@ -136,16 +214,14 @@ pub fn run<R: Net + Files + Clock + Input + Alloc, W: Write + Drop>(
     options: Options<'_>,
     out: W,
 ) -> Result<(), ProxyFault> {
-    let faults = Faults {
-        script: read_script(rt, alloc, options.script)?,
-        seed: options.seed,
-    };
+    let script = read_script(rt, alloc, options.script)?;
     if options.connections == 0 {
         return Ok(());
     }
+    let faults = Faults {
+        script,
+        seed: options.seed,
+    };
     let mut out = BufWriter::new(alloc, out)?;
-    let events = Events::with_capacity(alloc, EVENTS)?;
-    let (listener, upstream, sink) = listen(rt, alloc, options, &mut out)?;
-    let mut proxy = Proxy::new(rt, alloc, listener, upstream, options, faults)?;
-    serve(rt, &mut proxy, options, events, sink, &mut out)
+    serve_faults(rt, alloc, options, faults, &mut out)
 }

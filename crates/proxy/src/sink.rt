@@ -41,8 +41,13 @@ impl<'r, R: Files + Clock> Sink<'r, R> {
 
     /// Returns true if messages are shown, or the file of records has room.
     pub fn wants_messages(&self) -> bool {
-        self.show != Show::Nothing
-            || matches!(&self.recorder, Some(recorder) if !recorder.is_full())
+        if self.show.shows() {
+            return true;
+        }
+        match &self.recorder {
+            Some(recorder) => !recorder.is_full(),
+            None => false,
+        }
     }
 
     /// Records a message, if messages are recorded. Tells the first one that doesn't fit.
@@ -57,9 +62,10 @@ impl<'r, R: Files + Clock> Sink<'r, R> {
             return Ok(());
         };
         if recorder.put(number, direction, frame)? {
-            writeln!(out, "record full")?;
+            out.write_all(b"record full\n")
+        } else {
+            Ok(())
         }
-        Ok(())
     }
 
     /// Records and shows a message that goes this way on the connection of this number, as far as

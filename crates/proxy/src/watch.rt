@@ -1,6 +1,6 @@
 //! Finds the messages that pass on a connection.
 
-ghost use Rattle.std.specs.Prelude.{None};
+ghost use Rattle.std.specs.Prelude.{◌≡◌, None, is_some};
 
 use crate::direction::Direction;
 use crate::sink::Sink;
@@ -125,6 +125,17 @@ impl Watches {
         Watches {
             there: Watch::new(alloc, number, Direction::There),
             back: Watch::new(alloc, number, Direction::Back),
+        }
+    }
+
+    /// Makes the same if it is `wanted`. It takes no memory.
+    pub fn if_wanted(alloc: Global, number: u64, wanted: bool) -> Option<Watches>
+        ensures { is_some result ≡ wanted }
+    {
+        if wanted {
+            Some(Watches::new(alloc, number))
+        } else {
+            None
         }
     }
 
