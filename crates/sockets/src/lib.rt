@@ -11,7 +11,7 @@
 //! it. `relay_laws` says that what was sent over a link is a beginning of what came over the other,
 //! and all of it where that one ended.
 //!
-//! Uses mio and wire_stream. Used by proxy, shared_proxy, replay, bsonwire and test_server. Read
+//! Uses mio and wire_stream. Used by proxy, shared_proxy, replay, bsonproxy and bsonserver. Read
 //! first: `polling`, and then `acceptor`; of relays `way`, and then `relay`.
 #![tactic(auto)]
 
