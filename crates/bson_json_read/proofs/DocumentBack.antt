@@ -6,7 +6,7 @@ use Rattle.json.specs.Json as json
 use Rattle.bson_elem.specs.declared.kinds.Kind.TheVariants as kinds
 use Rattle.bson_elem.specs.Spelling.{Spells}
 use Rattle.bson_elem.specs.Trees.{Tree}
-use Rattle.bson_doc.specs.Document.{tree_of}
+use Rattle.bson_doc.specs.Document.{pairs_of, tree_of}
 use Rattle.bson_json.specs.declared.mode.Mode.TheVariants.{Canonical}
 use Rattle.bson_json.specs.Json.{IsJson}
 use Rattle.bson_json_read.specs.Lossless.{IsLossless}
@@ -17,7 +17,7 @@ use Rattle.bson_json_read.specs.Texts.{document_as, document_in, json_in}
 use Rattle.bson_json_read.specs.Values.{Pair, document_read, pairs_read, value_read}
 use Rattle.bson_json_read.proofs.Printing.{json_printed}
 use Rattle.bson_json_read.proofs.ReadBack.{printed_back}
-use Rattle.bson_json_read.proofs.Trees.{bracketed, members_back, pairs_of, tree_back}
+use Rattle.bson_json_read.proofs.Trees.{bracketed, members_back, tree_back}
 
 -- the outermost document
 outermost_read : (n room : ℕ) (ms : json.Members) (t : Tree) → n ≡ suc room → pairs_read (value_read room) [] ms ≡ Ok (pairs_of t) → and_map tree_of (document_read n ms) ≡ Ok t

@@ -18,7 +18,7 @@ use Rattle.bson_elem.specs.Trees.{Beside, Leaf, Tree, inner_pair, leaf_pair, no_
 use Rattle.bson_raw.specs.Naming.{is_array_kind, name_at}
 use Rattle.bson_raw.specs.Pairs.{TreeValue, document_value, is_among, leaf_value, names_of}
 use Rattle.bson_doc.specs.Array.{array_tree}
-use Rattle.bson_doc.specs.Document.{tree_of, value_named}
+use Rattle.bson_doc.specs.Document.{pairs_of, tree_of, value_named}
 use Rattle.bson_doc.specs.Plain.{plain_from}
 use Rattle.bson_doc.specs.Repeats.{first_of, repeat_in}
 use Rattle.bson_doc.specs.Unwritable.{has_zero}
@@ -33,11 +33,6 @@ use Rattle.bson_json_read.proofs.Printing.{items_text, json_text, members_text}
 use Rattle.bson_json_read.proofs.Walking.{value_at}
 
 -- ---- the pairs of a tree
-
-abbrev pub pairs_of : Tree → List Pair
-pairs_of no_pairs = []
-pairs_of (leaf_pair name k v ps) = (name, leaf_value k v) ∷ pairs_of ps
-pairs_of (inner_pair name k b inner ps) = (name, document_value k b inner) ∷ pairs_of ps
 
 abbrev pub values_of : Tree → List TreeValue
 values_of no_pairs = []

@@ -6,7 +6,8 @@
 //! values, and `value` reads documents and arrays by them. `TextReader` reads the documents of an
 //! input of several texts, which may come in pieces.
 //!
-//! Uses bson_doc and bson_json. Used by engines and test_script. Read first: `text`, and then `value`.
+//! Uses bson_doc and bson_json. Used by test_script, file_commands and bsonwire. Read first: `text`,
+//! and then `value`.
 #![tactic(auto)]
 
 mod bracket;
