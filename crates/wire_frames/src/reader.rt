@@ -5,7 +5,6 @@ ghost use Rattle.std.specs.Prelude.{take, ℕ};
 ghost use Rattle.wire_frames.specs.Frames.{IsFrame, LacksFrame, WantsMore};
 ghost use Rattle.wire_frames.specs.Fronts.{IsFrontFrame};
 ghost use Rattle.wire_frames.specs.Readers.{FrameReading};
-ghost use Rattle.wire_msg.specs.declared.header.TheConstants.{MAX_MESSAGE_LEN};
 
 use crate::frame::RawFrame;
 use crate::frames::WireFrames;
@@ -25,6 +24,7 @@ pub struct FrameReader {
 impl Model for FrameReader {
     ghost use Rattle.std.specs.Prelude.{◌≤◌};
     ghost use Rattle.wire_frames.specs.Readers.{FrameReading};
+    ghost use Rattle.wire_msg.specs.declared.header.TheConstants.{MAX_MESSAGE_LEN};
 
     ghost Value = { FrameReading };
 

@@ -6,7 +6,6 @@ ghost use Rattle.wire_frames.specs.RecordFronts.{IsFrontRecord};
 ghost use Rattle.wire_frames.specs.RecordReaders.{RecordReading};
 ghost use Rattle.wire_frames.specs.Records.{IsAtFault, IsRecord, WantsMore};
 ghost use Rattle.wire_frames.specs.declared.fault.RecordFault.{RecordFault};
-ghost use Rattle.wire_msg.specs.declared.header.TheConstants.{MAX_MESSAGE_LEN};
 
 use crate::record::RawRecord;
 use crate::record_front::RecordFront;
@@ -26,6 +25,7 @@ pub struct RecordReader {
 impl Model for RecordReader {
     ghost use Rattle.std.specs.Prelude.{◌≤◌};
     ghost use Rattle.wire_frames.specs.RecordReaders.{RecordReading};
+    ghost use Rattle.wire_msg.specs.declared.header.TheConstants.{MAX_MESSAGE_LEN};
 
     ghost Value = { RecordReading };
 

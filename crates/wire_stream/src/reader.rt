@@ -35,6 +35,7 @@ pub struct MsgReader {
 
 impl Model for MsgReader {
     ghost use Rattle.std.specs.Prelude.{◌≡◌, ◌≤◌, length};
+    ghost use Rattle.wire_msg.specs.declared.header.TheConstants.{MAX_MESSAGE_LEN};
     ghost use Rattle.wire_stream.specs.Holding.{IsKept, held_of};
     ghost use Rattle.wire_stream.specs.Readers.{Reading, StandsAt};
 
