@@ -11,7 +11,7 @@ use bson_doc::Bson;
 use std::cmp::Ordering;
 
 /// The place of a value.
-#[derive(Clone, Copy, Debug)]
+#[derive(Clone, Copy)]
 pub struct Place<'a> {
     /// The bracket of its kind: values of different brackets are ordered by these.
     pub bracket: u8,

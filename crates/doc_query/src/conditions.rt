@@ -14,7 +14,7 @@ use bson_doc::{Bson, Document};
 use std::cmp::Ordering;
 
 /// An operator of a filter, which is named as in the filter.
-#[derive(Clone, Copy, Debug, PartialEq, Eq)]
+#[derive(Clone, Copy)]
 pub enum Operator {
     Eq,
     Ne,
@@ -128,7 +128,10 @@ pub fn passes(operator: Operator, own: &Bson, operand: &Bson) -> bool
 pub fn is_number(value: &Bson, number: i32) -> bool
     ensures { result ≡ is_number number (value_of value.now) }
 {
-    passes(Operator::Eq, value, &Bson::Int32(number))
+    let number = Bson::Int32(number);
+    let is_equal = passes(Operator::Eq, value, &number);
+    drop(number);
+    is_equal
 }
 
 /// Returns the values of an array, or none if the value is no array.

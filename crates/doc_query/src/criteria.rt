@@ -9,7 +9,7 @@ use crate::decimals::holds_decimal;
 use bson_doc::Bson;
 
 /// What is asked of a value.
-#[derive(Clone, Copy, Debug)]
+#[derive(Clone, Copy)]
 pub enum Criterion<'a> {
     /// That it is ordered against this operand as the operator asks. A missing value is as null.
     Passes(Operator, &'a Bson),

@@ -17,7 +17,7 @@ const PROJECTED: &str =
     "a projection must name fields of the document itself, each with 1, true, 0 or false";
 
 /// What is wrong with a command, or with what it asks for.
-#[derive(Clone, Copy, Debug, PartialEq, Eq)]
+#[derive(Clone, Copy, Debug)]
 pub enum CommandError {
     /// `$db` isn't a string.
     Database,
@@ -308,7 +308,7 @@ impl CommandError {
 }
 
 /// Why a command has no answer of its own.
-#[derive(Clone, Copy, Debug, PartialEq, Eq)]
+#[derive(Clone, Copy, Debug)]
 pub enum Failure {
     /// The answer is this error.
     Refused(CommandError),

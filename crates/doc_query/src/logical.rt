@@ -6,14 +6,14 @@ ghost use Rattle.doc_query.specs.Filters.{joined_none, joining, logical_of, no_a
 use crate::failure::CommandError;
 
 /// A logical operator, which is named as in a filter.
-#[derive(Clone, Copy, Debug, PartialEq, Eq)]
+#[derive(Clone, Copy)]
 pub enum Logical {
     And,
     Or,
 }
 
 /// What a filter is applied for.
-#[derive(Clone, Copy, Debug, PartialEq, Eq)]
+#[derive(Clone, Copy)]
 pub enum Purpose {
     /// To tell if a document matches.
     Match,

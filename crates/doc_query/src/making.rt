@@ -1,20 +1,20 @@
 //! Makes values, and sets the fields of documents.
 
-ghost use Rattle.std.specs.Prelude.{◌≡◌, ◌<◌, ◌^◌, IfNone, OnErr, OnOk, OnSome, string_bytes};
+ghost use Rattle.std.specs.Prelude.{◌≡◌, ◌<◌, ◌^◌, OnErr, OnOk, string_bytes};
 ghost use Rattle.bson_doc.specs.{put, value_of};
 ghost use Rattle.doc_query.specs.Values.{count_value};
 
 use bson_doc::{Bson, Document};
 use std::alloc::{AllocError, Global};
 
-/// Sets the field with this name of a document. `None` if memory runs out.
-fn put_field(document: &mut Document, name: String, value: Bson) -> Option<()>
-    ensures put { OnSome result
+/// Sets the field with this name of a document.
+fn put_field(document: &mut Document, name: String, value: Bson) -> Result<(), AllocError>
+    ensures put { OnOk result
         (document.new ≡ put (string_bytes name) (value_of value) document.old) }
-    ensures unchanged { IfNone result (document.new ≡ document.old) }
+    ensures unchanged { OnErr result (document.new ≡ document.old) }
 {
-    document.insert(name, value).ok()?;
-    Some(())
+    drop(document.insert(name, value)?);
+    Ok(())
 }
 
 /// Sets a field of a document.
@@ -31,8 +31,13 @@ pub fn set(
     ensures put { OnOk result (document.new ≡ put name.now (value_of value) document.old) }
     ensures unchanged { OnErr result (document.new ≡ document.old) }
 {
-    let name = String::from_str(alloc, name)?;
-    put_field(document, name, value).ok_or(AllocError)
+    match String::from_str(alloc, name) {
+        Ok(name) => put_field(document, name, value),
+        Err(refused) => {
+            drop(value);
+            Err(refused)
+        }
+    }
 }
 
 /// Returns a number as a value: an int32 if it fits, and otherwise an int64.

@@ -12,7 +12,7 @@ use std::cmp::Ordering;
 const COMMON_POWER: u16 = 1074;
 
 /// A whole number: `digits` times 2 to the `power`.
-#[derive(Clone, Copy, Debug)]
+#[derive(Clone, Copy)]
 pub struct Number {
     pub digits: i64,
     pub power: u16,

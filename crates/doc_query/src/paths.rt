@@ -18,7 +18,7 @@ use bson_doc::{Bson, Document};
 use itoa::Buffer;
 
 /// The values that a path reaches in a document.
-#[derive(Clone, Copy, Debug)]
+#[derive(Clone, Copy)]
 pub struct OwnValues<'a> {
     pub document: &'a Document,
     pub path: &'a str,
