@@ -1,7 +1,7 @@
 //! Applies the statements of delete to documents.
 
 ghost use Rattle.std.specs.Prelude.{◌≡◌, ◌<◌, ◌≤◌, ◌^◌, Err, IfErr, IfOk, MatchResult, Ok, OnOk};
-ghost use Rattle.std.specs.Prelude.{◌++◌, ◌∷◌, [], length, map};
+ghost use Rattle.std.specs.Prelude.{length, map};
 ghost use Rattle.bson_doc.specs.{tree_of, value_of};
 ghost use Rattle.doc_query.specs.{IsFailure};
 ghost use Rattle.doc_update.specs.Deleting.{after_deletes, delete_by, delete_in, delete_of};
@@ -15,7 +15,7 @@ use doc_query::{CommandError, Failure, applicable, compared, copies, field, is_m
 use std::alloc::{AllocError, Global};
 
 /// What a statement of delete asks for.
-#[derive(Clone, Copy, Debug)]
+#[derive(Clone, Copy)]
 struct Delete<'a> {
     /// The filter that the documents match.
     filter: &'a Document,
@@ -76,16 +76,6 @@ fn delete_of(statement: &Bson) -> Result<Delete<'_>, CommandError>
     }
 }
 
-/// Appends a copy of a value to values.
-fn push_copy(value: &Bson, values: &mut Vec<Bson>) -> Result<(), AllocError>
-    ensures { OnOk result
-        (map value_of values.new.items ≡ map value_of values.old.items ++ value_of value.now ∷ []) }
-{
-    let copy = value.try_clone()?;
-    values.push(copy)?;
-    Ok(())
-}
-
 /// Returns copies of the documents that are left after a statement, in order.
 fn survivors(alloc: Global, delete: Delete<'_>, documents: &[Bson]) -> Result<Vec<Bson>, AllocError>
     ensures { IfOk result (λ vs. map value_of vs.items
@@ -97,7 +87,7 @@ fn survivors(alloc: Global, delete: Delete<'_>, documents: &[Bson]) -> Result<Ve
         if !is_done && is_match(delete.filter, document) {
             is_done = delete.is_single;
         } else {
-            push_copy(document, &mut left)?;
+            left.push(document.try_clone()?)?;
         }
     }
     Ok(left)

@@ -9,6 +9,7 @@ use crate::counts::plus;
 use bson_doc::Bson;
 use doc_query::{CommandError, copies, is_index};
 use std::alloc::{AllocError, Global};
+use std::mem;
 
 /// The greatest index at which an element is made behind the end of an array.
 const MAX_MADE_INDEX: usize = 1_500_000;
@@ -91,7 +92,14 @@ pub fn put_at(
     ensures { IfOk result (λ vs. map value_of vs.items
         ≡ put_at index (value_of value) (map value_of elements.now)) }
 {
-    let mut values = reaching(alloc, index, elements)?;
-    values[index] = value;
-    Ok(values)
+    match reaching(alloc, index, elements) {
+        Ok(mut values) => {
+            drop(mem::replace(&mut values[index], value));
+            Ok(values)
+        }
+        Err(refused) => {
+            drop(value);
+            Err(refused)
+        }
+    }
 }

@@ -11,7 +11,7 @@ use doc_query::CommandError;
 use std::num::nearest_i64_to_f64;
 
 /// A number that `$inc` adds, or adds to.
-#[derive(Clone, Copy, Debug)]
+#[derive(Clone, Copy)]
 pub enum Number {
     Int32(i32),
     Int64(i64),

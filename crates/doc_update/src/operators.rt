@@ -111,8 +111,13 @@ fn unless_conflict(alloc: Global, operators: Operators) -> Result<Operators, Fai
     ensures ok { IfOk result (λ o. unless_conflict operators ≡ Ok o) }
     ensures refused { IfErr result (λ e. IsFailure (unless_conflict operators) e) }
 {
-    check_conflict(alloc, &operators)?;
-    Ok(operators)
+    match check_conflict(alloc, &operators) {
+        Ok(()) => Ok(operators),
+        Err(failure) => {
+            drop(operators);
+            Err(failure)
+        }
+    }
 }
 
 /// Returns the paths that an operator of an update names. There are none if it isn't there.

@@ -11,6 +11,7 @@ use crate::elements::index_of;
 use bson_doc::{Array, Bson, Document};
 use doc_query::{copies, first_step, set};
 use std::alloc::{AllocError, Global};
+use std::mem;
 
 /// Sets a field of a document, or removes it if there is no value.
 fn set_or_remove(
@@ -99,7 +100,7 @@ fn left_by(
         return Ok(values);
     };
     let left = left_of(alloc, rest, Some(element))?;
-    values[index] = left.unwrap_or(Bson::Null);
+    drop(mem::replace(&mut values[index], left.unwrap_or(Bson::Null)));
     Ok(values)
 }
 

@@ -15,7 +15,7 @@ use doc_query::{CommandError, Failure, first_step, set};
 use std::alloc::Global;
 
 /// What an operator makes of the value at a path, by its operand.
-#[derive(Clone, Copy, Debug)]
+#[derive(Clone, Copy)]
 pub enum Edit {
     /// The operand takes its place.
     Set,

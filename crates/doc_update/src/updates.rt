@@ -155,13 +155,18 @@ fn update_in(alloc: Global, statement: &Document) -> Result<Update<'_>, Failure>
     }
     let filter = filter_at(statement)?;
     let change = change_at(alloc, statement)?;
-    let (is_multi, is_upsert) = flags_in(statement, &change)?;
-    Ok(Update {
-        filter,
-        change,
-        is_multi,
-        is_upsert,
-    })
+    match flags_in(statement, &change) {
+        Ok((is_multi, is_upsert)) => Ok(Update {
+            filter,
+            change,
+            is_multi,
+            is_upsert,
+        }),
+        Err(error) => {
+            drop(change);
+            Err(Failure::Refused(error))
+        }
+    }
 }
 
 /// Reads what a value asks for, which must be a statement.
@@ -250,6 +255,26 @@ fn update_one(
     }
 }
 
+/// Adds documents to those that the statement made, one after another.
+fn update_each(
+    alloc: Global,
+    update: &Update<'_>,
+    documents: &[Bson],
+    outcome: &mut Outcome,
+) -> Result<(), Failure>
+    ensures ok { OnOk result
+        (updated (update_view update.now) (map value_of documents.now) (outcome_view outcome.old)
+        ≡ Ok (outcome_view outcome.new)) }
+    ensures refused { IfErr result (λ e. IsFailure
+        (updated (update_view update.now) (map value_of documents.now) (outcome_view outcome.old))
+        e) }
+{
+    for document in documents {
+        update_one(alloc, update, document, outcome)?;
+    }
+    Ok(())
+}
+
 /// Returns what a statement makes of documents.
 fn updated(alloc: Global, update: &Update<'_>, documents: &[Bson]) -> Result<Outcome, Failure>
     ensures ok { IfOk result (λ r.
@@ -264,10 +289,13 @@ fn updated(alloc: Global, update: &Update<'_>, documents: &[Bson]) -> Result<Out
         modified: 0,
         inserted: None,
     };
-    for document in documents {
-        update_one(alloc, update, document, &mut outcome)?;
+    match update_each(alloc, update, documents, &mut outcome) {
+        Ok(()) => Ok(outcome),
+        Err(failure) => {
+            drop(outcome);
+            Err(failure)
+        }
     }
-    Ok(outcome)
 }
 
 // ---- what it inserts
@@ -290,9 +318,16 @@ fn with_last(alloc: Global, documents: &[Bson], last: Bson) -> Result<Vec<Bson>,
     ensures { IfOk result
         (λ vs. map value_of vs.items ≡ map value_of documents.now ++ value_of last ∷ []) }
 {
-    let mut copies = copies(alloc, documents)?;
-    copies.push(last)?;
-    Ok(copies)
+    match copies(alloc, documents) {
+        Ok(mut copies) => {
+            copies.push(last)?;
+            Ok(copies)
+        }
+        Err(refused) => {
+            drop(last);
+            Err(refused)
+        }
+    }
 }
 
 /// Returns an error if a document isn't inserted behind others.
@@ -308,6 +343,19 @@ fn insertable(document: &Bson, documents: &[Bson]) -> Result<(), CommandError>
     Ok(())
 }
 
+/// Returns a copy of the `_id` of a document that is inserted behind others.
+fn inserted_id(document: &Bson, documents: &[Bson]) -> Result<Option<Bson>, Failure>
+    ensures ok { IfOk result (λ id.
+        (insertable (value_of document.now) (map value_of documents.now) ≡ Ok tt)
+        × (option_map value_of id ≡ id_in (value_of document.now))) }
+    ensures refused { IfErr result (λ e. IsFailure
+        (insertable (value_of document.now) (map value_of documents.now)) e) }
+{
+    insertable(document, documents)?;
+    let id = copied_id(document)?;
+    Ok(id)
+}
+
 /// Inserts a document behind others.
 ///
 /// # Errors
@@ -319,15 +367,25 @@ fn inserted(alloc: Global, document: Bson, documents: &[Bson]) -> Result<Outcome
     ensures refused { IfErr result (λ e. IsFailure
         (inserted (value_of document) (map value_of documents.now)) e) }
 {
-    insertable(&document, documents)?;
-    let id = copied_id(&document)?;
-    let documents = with_last(alloc, documents, document)?;
-    Ok(Outcome {
-        documents,
-        matched: 1,
-        modified: 0,
-        inserted: id,
-    })
+    let id = match inserted_id(&document, documents) {
+        Ok(id) => id,
+        Err(failure) => {
+            drop(document);
+            return Err(failure);
+        }
+    };
+    match with_last(alloc, documents, document) {
+        Ok(documents) => Ok(Outcome {
+            documents,
+            matched: 1,
+            modified: 0,
+            inserted: id,
+        }),
+        Err(_) => {
+            drop(id);
+            Err(Failure::OutOfMemory)
+        }
+    }
 }
 
 /// Inserts what a statement makes of the values in its filter behind documents.
@@ -353,6 +411,7 @@ fn carried(alloc: Global, update: &Update<'_>, documents: &[Bson]) -> Result<Out
 {
     let outcome = updated(alloc, update, documents)?;
     if update.is_upsert && outcome.matched == 0 {
+        drop(outcome);
         return inserted_by(alloc, update, documents);
     }
     Ok(outcome)
@@ -377,7 +436,9 @@ fn updated_by(alloc: Global, statement: &Bson, documents: &[Bson]) -> Result<Out
         (updated_by (value_of statement.now) (map value_of documents.now)) e) }
 {
     let update = update_of(alloc, statement)?;
-    applied(alloc, &update, documents)
+    let outcome = applied(alloc, &update, documents);
+    drop(update);
+    outcome
 }
 
 // ---- all statements

@@ -17,6 +17,6 @@ pub left_by-returns : goal.left_by-returns
 left_by-returns t c =
     let leave = left_of (steps_left c.args.rest) in
     let got : slice_get c.args.elements.now c.in-Some.index ≡ Some c.in-Some-get.element.now = got_at c.args.elements.now c.in-Some.index c.in-Some-get.element.now c.in-Some-get.ensures.lookup.3.0 c.in-Some-get.ensures.lookup.1 in
-    ap (λ v. map value_of (slice_set c.in_ok-values.values.items c.in-Some.index v)) c.unwrap_or.ensures
+    ap (λ v. map value_of (slice_set c.in_ok-values.values.items c.in-Some.index v)) (c.replace.ensures.after ∙ c.unwrap_or.ensures)
     ∙ left_set leave c.in-Some.index c.in_ok-values.values.items c.args.elements.now c.in-Some-get.element.now c.in_ok-left.left c.in_ok-values.ensures got c.in_ok-left.ensures
     ∙ ap (λ i. left_by leave i (map value_of c.args.elements.now)) c.in-Some.ensures
