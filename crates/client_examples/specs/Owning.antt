@@ -6,10 +6,11 @@ use Rattle.wire_model.specs.{Arrive, ClientAct, ClientEnd, ClientRun, Deed, Made
 use Rattle.wire_model.specs.{ServerEnd, ServerRun, first_end}
 use Rattle.wire_end.specs.{AreInOrder, records_of}
 use Rattle.client_examples.specs.declared.pair.ends.Ends.{Ends}
+use Rattle.wire_msg.specs.declared.header.TheConstants.{MAX_MESSAGE_LEN}
 
 -- the most bytes that a message has
 abbrev pub message_limit : ℕ
-message_limit = 48_000_000
+message_limit = MAX_MESSAGE_LEN
 
 -- ids from 1, and room for four calls and four requests
 abbrev pub made_for_four : Made

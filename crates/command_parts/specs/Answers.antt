@@ -7,6 +7,7 @@ use Rattle.bson_elem.specs.{raw_value}
 use Rattle.bson_raw.specs.{TreeValue, leaf_value}
 use Rattle.doc_query.specs.declared.failure.CommandError.{CommandError}
 use Rattle.doc_query.specs.{array, code_name_of, code_of, int32, text, truth, words_of}
+use Rattle.wire_msg.specs.declared.header.TheConstants.{MAX_MESSAGE_LEN}
 
 -- the double 0
 abbrev pub double_zero : TreeValue
@@ -41,7 +42,7 @@ abbrev pub hello_pairs : Bool → List (List ℕ × TreeValue)
 hello_pairs legacy =
     (codes "helloOk", truth true) ∷ (primary_name legacy, truth true)
     ∷ (codes "maxBsonObjectSize", int32 (pos 16777216))
-    ∷ (codes "maxMessageSizeBytes", int32 (pos 48000000))
+    ∷ (codes "maxMessageSizeBytes", int32 (pos MAX_MESSAGE_LEN))
     ∷ (codes "maxWriteBatchSize", int32 (pos 100000)) ∷ (codes "minWireVersion", int32 (pos 0))
     ∷ (codes "maxWireVersion", int32 (pos 13)) ∷ (codes "readOnly", truth false) ∷ ok_alone
 

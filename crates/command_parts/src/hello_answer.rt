@@ -4,6 +4,7 @@ ghost use Rattle.std.specs.Prelude.{◌≡◌, IfOk, OnOk, codes, pos, true};
 ghost use Rattle.bson_doc.specs.{put};
 ghost use Rattle.doc_query.specs.{int32, truth};
 ghost use Rattle.command_parts.specs.Answers.{hello_pairs, primary_name};
+ghost use Rattle.wire_msg.specs.declared.header.TheConstants.{MAX_MESSAGE_LEN};
 
 use crate::answers::set_ok;
 use bson_doc::{Bson, Document};
@@ -25,7 +26,7 @@ fn set_primary(alloc: Global, answer: &mut Document, legacy: bool) -> Result<(),
 fn set_limits(alloc: Global, answer: &mut Document) -> Result<(), AllocError>
     ensures { OnOk result
         (answer.new ≡ put (codes "maxWriteBatchSize") (int32 (pos 100000))
-        (put (codes "maxMessageSizeBytes") (int32 (pos 48000000))
+        (put (codes "maxMessageSizeBytes") (int32 (pos MAX_MESSAGE_LEN))
         (put (codes "maxBsonObjectSize") (int32 (pos 16777216)) answer.old))) }
 {
     set(alloc, answer, "maxBsonObjectSize", Bson::Int32(16_777_216))?;

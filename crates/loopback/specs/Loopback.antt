@@ -16,6 +16,7 @@ use Rattle.wire_model.specs.{ServerEnd, ServerRun, first_end}
 use Rattle.wire_end.specs.{AreAnswered, AreInOrder, EndRuns, EndSeen, ServerEndRuns}
 use Rattle.wire_end.specs.{ServerEndSeen, first_client, new_server_end}
 use Rattle.loopback.specs.Calling.{AreComplete, call_body, done_calls}
+use Rattle.wire_msg.specs.declared.header.TheConstants.{MAX_MESSAGE_LEN}
 
 -- the bytes of the request of this call
 abbrev pub request_bytes : ℕ → List ℕ
@@ -57,7 +58,7 @@ echo_stops h a stop h' = stop ≡ OutOfMemory
 
 -- the most bytes that a message has
 abbrev pub message_limit : ℕ
-message_limit = 48_000_000
+message_limit = MAX_MESSAGE_LEN
 
 -- ids from 1, and room for one call and one request
 abbrev pub made_least : Made
