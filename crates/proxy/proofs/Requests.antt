@@ -15,17 +15,18 @@ use Rattle.wire_query.proofs.Lemmas.{message_spelled}
 use Rattle.wire_query.specs.declared.query.RawQuery.{RawQuery}
 use Rattle.proxy.specs.declared.fate.Request.TheVariants as requests
 use Rattle.proxy.specs.Fates.{Asked, IsAsked, IsRequest, answering, asked_content, by_message, by_query, reply_size, reply_to, wants_reply}
+use Rattle.wire_msg.specs.declared.header.TheConstants.{MAX_MESSAGE_LEN}
 
 -- ---- reading
 
-pub message_found : (r : RawMsg) (frame bytes : List ℕ) → bytes ≡ frame → (msg_bytes r ≡ bytes) × IsMessage 48000000 bytes
+pub message_found : (r : RawMsg) (frame bytes : List ℕ) → bytes ≡ frame → (msg_bytes r ≡ bytes) × IsMessage MAX_MESSAGE_LEN bytes
     → ((a : Asked) × IsAsked frame a × IsRequest (requests.Message r) a)
 message_found r frame bytes at found =
     let asked : Asked = by_message found.1.1.0 in
     let is : IsAsked bytes asked = (found.1.0, found.1.1.1) in
     (asked, subst (λ (b : List ℕ). IsAsked b asked) at is, subst (λ (b : List ℕ). IsAsked b asked) (sym found.0) is)
 
-pub query_found : (r : RawQuery) (frame bytes : List ℕ) → bytes ≡ frame → (raw_query_bytes r ≡ bytes) × IsQuery 48000000 bytes
+pub query_found : (r : RawQuery) (frame bytes : List ℕ) → bytes ≡ frame → (raw_query_bytes r ≡ bytes) × IsQuery MAX_MESSAGE_LEN bytes
     → ((a : Asked) × IsAsked frame a × IsRequest (requests.Query r) a)
 query_found r frame bytes at found =
     let asked : Asked = by_query found.1.1.0 in
@@ -68,9 +69,9 @@ none_replied r (by_message m) more t old is told so =
     sym (append-nil old) ∙ ap (λ (e : Bool). old ++ (if e then [] else canonical (answering m.id t))) (sym so ∙ told m is.1)
 none_replied r (by_query q) more t old is told so = absurd is
 
-pub none_within : (r : RawMsg) (a : Asked) (more : Bool) (t : Tree) → IsRequest (requests.Message r) a → IsTold r more → more ≡ true → reply_size a t ≤ 48000000
+pub none_within : (r : RawMsg) (a : Asked) (more : Bool) (t : Tree) → IsRequest (requests.Message r) a → IsTold r more → more ≡ true → reply_size a t ≤ MAX_MESSAGE_LEN
 none_within r (by_message m) more t is told so =
-    subst (λ (e : Bool). (if e then 0 else message_len (body_alone t)) ≤ 48000000) (sym so ∙ told m is.1) (omega arith)
+    subst (λ (e : Bool). (if e then 0 else message_len (body_alone t)) ≤ MAX_MESSAGE_LEN) (sym so ∙ told m is.1) (omega arith)
 none_within r (by_query q) more t is told so = absurd is
 
 pub same_id : (m : Message) (bytes : List ℕ) (id : ℤ) → SpellsMsg m bytes → id ≡ m.id → to_z w32 (of_z w32 id) ≡ m.id
@@ -84,7 +85,7 @@ replied r (by_message m) more id t written old new is told not_so own added =
 replied r (by_query q) more id t written old new is told not_so own added = absurd is
 
 pub replied_within : {E : Type 0} (r : RawMsg) (a : Asked) (more : Bool) (t : Tree) (written : Result (Unit {0}) E) → IsRequest (requests.Message r) a
-    → IsTold r more → more ≡ false → OnOk written (message_len (body_alone t) ≤ 48000000) → OnOk written (reply_size a t ≤ 48000000)
+    → IsTold r more → more ≡ false → OnOk written (message_len (body_alone t) ≤ MAX_MESSAGE_LEN) → OnOk written (reply_size a t ≤ MAX_MESSAGE_LEN)
 replied_within r (by_message m) more t written is told not_so fits =
-    subst (λ (e : Bool). OnOk written ((if e then 0 else message_len (body_alone t)) ≤ 48000000)) (sym not_so ∙ told m is.1) fits
+    subst (λ (e : Bool). OnOk written ((if e then 0 else message_len (body_alone t)) ≤ MAX_MESSAGE_LEN)) (sym not_so ∙ told m is.1) fits
 replied_within r (by_query q) more t written is told not_so fits = absurd is

@@ -21,6 +21,7 @@ use Rattle.proxy.specs.declared.fate.Fate.{Fate}
 use Rattle.proxy.specs.declared.fate.Fate.TheVariants as fates
 use Rattle.proxy.specs.declared.fate.Request.{Request}
 use Rattle.proxy.specs.declared.fate.Request.TheVariants as requests
+use Rattle.wire_msg.specs.declared.header.TheConstants.{MAX_MESSAGE_LEN}
 
 -- a request of a command, by OP_MSG or by OP_QUERY
 pub data Asked : Type 0 where
@@ -29,8 +30,8 @@ pub data Asked : Type 0 where
 
 -- the bytes are this request, within the limit of messages
 abbrev pub IsAsked : List ℕ → Asked → Type 0
-IsAsked bytes (by_message m) = (length bytes ≤ 48000000) × SpellsMsg m bytes
-IsAsked bytes (by_query q) = (length bytes ≤ 48000000) × SpellsQuery q bytes
+IsAsked bytes (by_message m) = (length bytes ≤ MAX_MESSAGE_LEN) × SpellsMsg m bytes
+IsAsked bytes (by_query q) = (length bytes ≤ MAX_MESSAGE_LEN) × SpellsQuery q bytes
 
 -- what it carries, as rules see it
 abbrev pub asked_content : Asked → Content
@@ -67,8 +68,8 @@ reply_size (by_query q) t = reply_len t
 -- why the reply with this body isn't written
 abbrev pub IsReplyRefusal : Asked → Tree → MsgRefusal → Type 0
 IsReplyRefusal (by_message m) t e =
-    IsBodyRefusal t e ⊎ IsWriteRefusal 48000000 (message_len (body_alone t)) e
-IsReplyRefusal (by_query q) t e = IsWriteRefusal 48000000 (reply_len t) e
+    IsBodyRefusal t e ⊎ IsWriteRefusal MAX_MESSAGE_LEN (message_len (body_alone t)) e
+IsReplyRefusal (by_query q) t e = IsWriteRefusal MAX_MESSAGE_LEN (reply_len t) e
 
 -- no reply has this body, be there memory or not: it has no spelling, or none within the limit
 abbrev pub IsUnanswerable : Asked → Tree → Type 0
@@ -80,7 +81,7 @@ IsUnanswerable a t =
 -- the limit.
 abbrev pub IsReplied : Asked → Tree → Fate → Type 0
 IsReplied a t (fates.Reply bytes) =
-    (bytes.items ≡ reply_to a t) × (reply_size a t ≤ 48000000)
+    (bytes.items ≡ reply_to a t) × (reply_size a t ≤ MAX_MESSAGE_LEN)
 IsReplied a t fates.HangUp = IsUnanswerable a t
 IsReplied a t fate = ⊥
 

@@ -97,7 +97,8 @@ impl<'a> Request<'a> {
             → Spells t (document_bytes body.entry)
             → OnOk result (out.new.items ≡ out.old.items ++ reply_to a t) }
         ensures within { (a : Asked) (t : Tree) → IsRequest self.entry a
-            → Spells t (document_bytes body.entry) → OnOk result (reply_size a t ≤ 48000000) }
+            → Spells t (document_bytes body.entry)
+            → OnOk result (reply_size a t ≤ MAX_MESSAGE_LEN) }
         ensures refused { (a : Asked) (t : Tree) → IsRequest self.entry a
             → Spells t (document_bytes body.entry)
             → IfErr result (λ e. IsReplyRefusal a t e) }
