@@ -25,18 +25,18 @@ pub left_of-map : {A B : Type 0} (f : A → B) (single : Bool) (vs : List A) →
 left_of-map f true vs = refl
 left_of-map f false vs = refl
 
-pub found_answered : {E : Type 0} (s s' : StoreView) (n : NamespaceView) (all : List TreeValue) (count : ℕ) (single : Bool) (batch left : List TreeValue) (id : ℤ) (ns : List ℕ) (r : Result (List (List ℕ × TreeValue)) E)
+pub found_answered : {E : Type 0} (s s' : StoreView) (n : NamespaceView) (all : List TreeValue) (count : ℕ) (single : Bool) (batch left : List TreeValue) (id : ℤ) (r : Result (List (List ℕ × TreeValue)) E)
     → batch ≡ next_batch count all → left ≡ left_of single (after_batch count all)
-    → id ≡ opened_id left s.cursors → ns ≡ namespace_text n
+    → id ≡ opened_id left s.cursors
     → s'.cursors ≡ opened n left s.cursors → s'.collections ≡ s.collections
-    → IfOk r (λ d. d ≡ cursor_answer First batch id ns)
+    → IfOk r (λ d. d ≡ cursor_answer First batch id (namespace_text n))
     → IfOk r (λ d. found_reply s n all count single ≡ record { answer = d; held = s' })
-found_answered s s' n all count single batch left id ns (Err e) b l i t o k is = tt
-found_answered s s' n all count single batch left id ns (Ok d) b l i t o k is =
+found_answered s s' n all count single batch left id (Err e) b l i o k is = tt
+found_answered s s' n all count single batch left id (Ok d) b l i o k is =
     let others : List TreeValue = left_of single (after_batch count all) in
     let number : id ≡ opened_id others s.cursors = i ∙ ap (λ (vs : List TreeValue). opened_id vs s.cursors) l in
     let answer : d ≡ cursor_answer First (next_batch count all) (opened_id others s.cursors) (namespace_text n) =
-    is ∙ (λ j. cursor_answer First (b j) (number j) (t j)) in
+    is ∙ (λ j. cursor_answer First (b j) (number j) (namespace_text n)) in
     let cursors : s'.cursors ≡ opened n others s.cursors = o ∙ ap (λ (vs : List TreeValue). opened n vs s.cursors) l in
     λ j. record { answer = sym answer j; held = record { collections = sym k j; cursors = sym cursors j } }
 

@@ -56,6 +56,10 @@ add_unless (Some e) v a = record { added = a.added; errors = a.errors ++ e ∷ [
 abbrev pub add : NamespaceView → List TreeValue → ℕ → TreeValue → AddingView → AddingView
 add n held i v a = add_unless (error_of n held a.added i (id_in v)) v a
 
+-- a document is added with an `_id`, unless it has an error
+abbrev pub add_identified : NamespaceView → List TreeValue → ℕ → TreeValue → AddingView → AddingView
+add_identified n held i v a = add n held i (identified (free_number held a.added) v) a
+
 -- the documents from this index on are added one after another, with an `_id`; where they are
 -- ordered, nothing follows the first error
 abbrev pub add_each : Bool → NamespaceView → List TreeValue → ℕ → List TreeValue → AddingView
@@ -63,8 +67,7 @@ abbrev pub add_each : Bool → NamespaceView → List TreeValue → ℕ → List
 add_each ordered n held i [] a = a
 add_each ordered n held i (v ∷ vs) a =
     if ordered && has_error a.errors then a
-    else add_each ordered n held (i + 1) vs
-    (add n held i (identified (free_number held a.added) v) a)
+    else add_each ordered n held (i + 1) vs (add_identified n held i v a)
 
 -- what is added of these documents
 abbrev pub gathered : Bool → NamespaceView → List TreeValue → List TreeValue → AddingView

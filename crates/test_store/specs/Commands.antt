@@ -55,31 +55,41 @@ insert_reply s n a = record {
   held = record { collections = with_any n a.added s.collections; cursors = s.cursors };
 }
 
+abbrev pub insert_by : StoreView → NamespaceView → Bool → List TreeValue → Reply
+insert_by s n ordered vs = insert_reply s n (gathered ordered n (documents_in n s.collections) vs)
+
 -- the answer of insert and what is held after it, or its error
 abbrev pub insert : StoreView → Content → Result Reply CommandError
 insert s c =
     and_then (namespace_at (codes "insert") errors.Insert c.body) (λ n.
     and_then (flag_field (codes "ordered") true errors.Ordered c.body) (λ ordered.
-    and_then (brought (codes "documents") c) (λ vs.
-    Ok (insert_reply s n (gathered ordered n (documents_in n s.collections) vs)))))
+    and_then (brought (codes "documents") c) (λ vs. Ok (insert_by s n ordered vs))))
 
 -- ---- find
 
--- what find asks for
-pub record QueryView : Type 0 where
-  pub selection : SelectionView
+-- what find asks for beside the documents that are found
+pub record ShapeView : Type 0 where
   -- of the first batch
   pub count : ℕ
   pub is_single : Bool
   pub projection : Tree
 
-abbrev pub query_in : Tree → Result QueryView CommandError
-query_in t =
-    and_then (selection_in (codes "find") errors.Find (codes "filter") t) (λ q.
+-- what find asks for
+pub record QueryView : Type 0 where
+  pub selection : SelectionView
+  pub shape : ShapeView
+
+abbrev pub shape_in : Tree → Result ShapeView CommandError
+shape_in t =
     and_then (first_batch_size t) (λ count.
     and_then (flag_field (codes "singleBatch") false errors.SingleBatch t) (λ single.
     and_then (projection_field t) (λ p.
-    Ok (record { selection = q; count = count; is_single = single; projection = p })))))
+    Ok (record { count = count; is_single = single; projection = p }))))
+
+abbrev pub query_in : Tree → Result QueryView CommandError
+query_in t =
+    and_then (selection_in (codes "find") errors.Find (codes "filter") t) (λ q.
+    and_then (shape_in t) (λ shape. Ok (record { selection = q; shape = shape })))
 
 -- what a cursor is opened over: what is left after the batch, unless that is to be the only one
 abbrev pub left_of : {A : Type 0} → Bool → List A → List A
@@ -101,7 +111,8 @@ found_reply s n vs count single =
 abbrev pub find_reply_to : StoreView → QueryView → Result Reply CommandError
 find_reply_to s q =
     and_then (selected q.selection s.collections) (λ vs.
-    Ok (found_reply s q.selection.namespace (map (projected q.projection) vs) q.count q.is_single))
+    Ok (found_reply s q.selection.namespace (map (projected q.shape.projection) vs)
+    q.shape.count q.shape.is_single))
 
 -- the answer of find and what is held after it, or its error
 abbrev pub find : StoreView → Tree → Result Reply CommandError
@@ -172,13 +183,16 @@ update_reply s n u = record {
   held = record { collections = with_replaced n u.documents s.collections; cursors = s.cursors };
 }
 
+abbrev pub update_by : StoreView → NamespaceView → Bool → List TreeValue → Reply
+update_by s n ordered vs =
+    update_reply s n (after_updates ordered vs (documents_in n s.collections))
+
 -- the answer of update and what is held after it, or its error
 abbrev pub update : StoreView → Content → Result Reply CommandError
 update s c =
     and_then (namespace_at (codes "update") errors.Update c.body) (λ n.
     and_then (flag_field (codes "ordered") true errors.Ordered c.body) (λ ordered.
-    and_then (brought (codes "updates") c) (λ vs.
-    Ok (update_reply s n (after_updates ordered vs (documents_in n s.collections))))))
+    and_then (brought (codes "updates") c) (λ vs. Ok (update_by s n ordered vs))))
 
 -- ---- aggregate
 
@@ -218,8 +232,13 @@ abbrev pub kill_each : NamespaceView → List TreeValue → Killing → Killing
 kill_each n [] k = k
 kill_each n (v ∷ vs) k = kill_each n vs (kill_one n v k)
 
+-- with these ids and values told so far
+abbrev pub killing_so_far : StoreView → List TreeValue → List TreeValue → Killing
+killing_so_far s killed missing =
+    record { killed = killed; missing = missing; cursors = s.cursors }
+
 abbrev pub killing : StoreView → NamespaceView → List TreeValue → Killing
-killing s n vs = kill_each n vs (record { killed = []; missing = []; cursors = s.cursors })
+killing s n vs = kill_each n vs (killing_so_far s [] [])
 
 abbrev pub killed_reply : StoreView → Killing → Reply
 killed_reply s k = record {

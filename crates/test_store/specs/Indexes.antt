@@ -88,12 +88,14 @@ with_index i js =
     if list_any (has_name i.name) js then Err errors.IndexName else
     if list_any (has_key i.key) js then Err errors.IndexKey else Ok (js ++ i ∷ [])
 
+-- the indexes with the one that a value asks for
+abbrev pub with_asked : TreeValue → List IndexView → Result (List IndexView) CommandError
+with_asked v js = and_then (or_error errors.Index (index_in v)) (λ i. with_index i js)
+
 -- the indexes with those that the values ask for
 abbrev pub with_indexes : List TreeValue → List IndexView → Result (List IndexView) CommandError
 with_indexes [] js = Ok js
-with_indexes (v ∷ vs) js =
-    and_then (or_error errors.Index (index_in v)) (λ i.
-    and_then (with_index i js) (λ more. with_indexes vs more))
+with_indexes (v ∷ vs) js = and_then (with_asked v js) (λ more. with_indexes vs more)
 
 -- ---- telling them
 

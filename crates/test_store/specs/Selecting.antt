@@ -31,22 +31,30 @@ selection_of q =
       limit = q.limit;
     }
 
+-- how many documents are passed over, and the most after those
+abbrev pub bounds_in : Tree → Result (ℕ × ℕ) CommandError
+bounds_in t =
+    and_then (number_field (codes "skip") errors.Skip t) (λ skip.
+    and_then (number_field (codes "limit") errors.Limit t) (λ limit. Ok (skip, limit)))
+
 -- what a command asks for whose collection and filter are in the fields with these names
 abbrev pub selection_in : List ℕ → CommandError → List ℕ → Tree → Result SelectionView CommandError
 selection_in name error filter t =
     and_then (namespace_at name error t) (λ n.
     and_then (filter_field filter t) (λ f.
     and_then (sort_field t) (λ keys.
-    and_then (number_field (codes "skip") errors.Skip t) (λ skip.
-    and_then (number_field (codes "limit") errors.Limit t) (λ limit.
-    Ok (record { namespace = n; filter = f; keys = keys; skip = skip; limit = limit }))))))
+    and_then (bounds_in t) (λ b.
+    Ok (record { namespace = n; filter = f; keys = keys; skip = b.0; limit = b.1 })))))
 
 -- the first ones, at most this many, or all if the limit is 0
 abbrev pub limited : {A : Type 0} → ℕ → List A → List A
 limited n vs = if n == 0 then vs else take n vs
 
+-- these documents sorted, without those that are passed over, and no more than the limit
+abbrev pub arranged : SelectionView → List TreeValue → Result (List TreeValue) CommandError
+arranged q vs = and_then (sorted_in q.keys vs) (λ ws. Ok (limited q.limit (drop q.skip ws)))
+
 -- the documents that match, sorted, without those that are passed over, and no more than the limit
 abbrev pub selected : SelectionView → List CollectionView → Result (List TreeValue) CommandError
 selected q cs =
-    and_then (found_in q.filter (documents_in q.namespace cs)) (λ vs.
-    and_then (sorted_in q.keys vs) (λ ws. Ok (limited q.limit (drop q.skip ws))))
+    and_then (found_in q.filter (documents_in q.namespace cs)) (λ vs. arranged q vs)

@@ -1,12 +1,13 @@
 //! Collects the documents that may be added to those of a namespace, in which no two have one
 //! `_id`, and none has an array, a regex or undefined there.
 
-ghost use Rattle.std.specs.Prelude.{◌≡◌, ◌<◌, ◌≤◌, ◌^◌, IfOk, OnOk, length, map};
-ghost use Rattle.std.specs.Prelude.{option_map, string_bytes};
-ghost use Rattle.bson_doc.specs.{value_of};
-ghost use Rattle.doc_query.specs.{inner};
+ghost use Rattle.std.specs.Prelude.{◌≡◌, ◌<◌, ◌≤◌, ◌^◌, [], IfOk, OnOk, Some, codes, length, map};
+ghost use Rattle.std.specs.Prelude.{option_map, pos, string_bytes};
+ghost use Rattle.bson_doc.specs.{put, value_of};
+ghost use Rattle.doc_query.specs.{inner, int32};
 ghost use Rattle.doc_update.specs.{has_error};
-ghost use Rattle.test_store.specs.Adding.{add, adding_of, duplicate_error, duplicate_words};
+ghost use Rattle.test_store.specs.Adding.{add_identified, adding_of, duplicate_error};
+ghost use Rattle.test_store.specs.Adding.{duplicate_words};
 ghost use Rattle.test_store.specs.Adding.{error_of, gathered, key_of};
 ghost use Rattle.test_store.specs.Held.{namespace_of};
 
@@ -17,7 +18,7 @@ use doc_update::{id_fault, id_in, identified, is_taken, write_error};
 use std::alloc::{AllocError, Global};
 
 /// What was made of the documents of a command so far.
-#[derive(Debug, Drop)]
+#[derive(Drop)]
 pub struct Adding {
     /// The documents to add.
     pub added: Vec<Bson>,
@@ -56,6 +57,38 @@ fn key_of(alloc: Global, id: Option<&Bson>) -> Result<Document, AllocError>
     Ok(key)
 }
 
+/// Sets the fields that tell which `_id` is taken.
+fn set_keys(alloc: Global, error: &mut Document, id: Option<&Bson>) -> Result<(), AllocError>
+    ensures { OnOk result (error.new
+        ≡ put (codes "keyValue") (key_of (option_map (λ v. value_of v.now) id.entry))
+        (put (codes "keyPattern") (key_of (Some (int32 (pos 1)))) error.old)) }
+{
+    let pattern = key_of(alloc, Some(&Bson::Int32(1)))?;
+    set(alloc, error, "keyPattern", Bson::Document(pattern))?;
+    let key = key_of(alloc, id)?;
+    set(alloc, error, "keyValue", Bson::Document(key))
+}
+
+/// Sets the fields of the error of the document at `index`, whose `_id`, which this is, is taken.
+fn set_duplicate(
+    alloc: Global,
+    error: &mut Document,
+    index: usize,
+    namespace: Namespace<'_>,
+    id: Option<&Bson>,
+) -> Result<(), AllocError>
+    requires index { index < 2 ^ 63 }
+    requires none { error.old ≡ [] }
+    ensures { OnOk result (inner error.new ≡ duplicate_error index (namespace_of namespace.entry)
+        (option_map (λ v. value_of v.now) id.entry)) }
+{
+    set(alloc, error, "index", count_value(index))?;
+    set(alloc, error, "code", Bson::Int32(11000))?;
+    set_keys(alloc, error, id)?;
+    let words = duplicate_words(alloc, namespace)?;
+    set(alloc, error, "errmsg", Bson::String(words))
+}
+
 /// Makes the error of the document at `index`, whose `_id`, which this is, is taken.
 fn duplicate_error(
     alloc: Global,
@@ -67,15 +100,8 @@ fn duplicate_error(
     ensures { IfOk result (λ d. inner d ≡ duplicate_error index (namespace_of namespace.entry)
         (option_map (λ v. value_of v.now) id.entry)) }
 {
-    let pattern = key_of(alloc, Some(&Bson::Int32(1)))?;
-    let key = key_of(alloc, id)?;
-    let words = duplicate_words(alloc, namespace)?;
     let mut error = Document::new(alloc);
-    set(alloc, &mut error, "index", count_value(index))?;
-    set(alloc, &mut error, "code", Bson::Int32(11000))?;
-    set(alloc, &mut error, "keyPattern", Bson::Document(pattern))?;
-    set(alloc, &mut error, "keyValue", Bson::Document(key))?;
-    set(alloc, &mut error, "errmsg", Bson::String(words))?;
+    set_duplicate(alloc, &mut error, index, namespace, id)?;
     Ok(error)
 }
 
@@ -106,23 +132,31 @@ fn error_of(
     Ok(None)
 }
 
-/// Adds a document, unless it has an error.
+/// Adds a document, unless it has an error. One without `_id` is given one that is free.
 fn add(
     alloc: Global,
     namespace: Namespace<'_>,
     held: &[Bson],
     index: usize,
-    document: Bson,
+    document: &Bson,
     adding: &mut Adding,
 ) -> Result<(), AllocError>
     requires { index < 2 ^ 63 }
-    ensures { OnOk result (adding_of adding.new ≡ add (namespace_of namespace.entry)
-        (map value_of held.now) index (value_of document) (adding_of adding.old)) }
+    ensures { OnOk result (adding_of adding.new ≡ add_identified (namespace_of namespace.entry)
+        (map value_of held.now) index (value_of document.now) (adding_of adding.old)) }
 {
+    let document = identified(alloc, document, held, &adding.added)?;
     let id = id_in(&document);
-    match error_of(alloc, namespace, held, &adding.added, index, id)? {
-        Some(error) => adding.errors.push(Bson::Document(error))?,
-        None => adding.added.push(document)?,
+    match error_of(alloc, namespace, held, &adding.added, index, id) {
+        Ok(None) => adding.added.push(document)?,
+        Ok(Some(error)) => {
+            drop(document);
+            adding.errors.push(Bson::Document(error))?;
+        }
+        Err(refused) => {
+            drop(document);
+            return Err(refused);
+        }
     }
     Ok(())
 }
@@ -148,7 +182,6 @@ pub fn gather(
         if is_ordered && adding.has_error() {
             return Ok(adding);
         }
-        let document = identified(alloc, document, held, &adding.added)?;
         add(alloc, namespace, held, index, document, &mut adding)?;
     }
     Ok(adding)

@@ -1,19 +1,20 @@
 //! Makes the answers that several commands give.
 
-ghost use Rattle.std.specs.Prelude.{◌≡◌, ◌<◌, ◌^◌, ◌∷◌, IfOk, codes, map, string_bytes};
-ghost use Rattle.bson_doc.specs.{value_of};
-ghost use Rattle.doc_query.specs.{array, count_value};
-ghost use Rattle.command_parts.specs.{ok_alone};
+ghost use Rattle.std.specs.Prelude.{◌≡◌, ◌<◌, ◌^◌, [], IfOk, OnOk, codes, map};
+ghost use Rattle.bson_doc.specs.{put, value_of};
+ghost use Rattle.doc_query.specs.{array, text};
 ghost use Rattle.test_store.specs.Answers.{batch_name, counted_pairs, cursor_answer, cursor_pairs};
-ghost use Rattle.test_store.specs.Answers.{written_pairs};
+ghost use Rattle.test_store.specs.Answers.{put_any, written_pairs};
+ghost use Rattle.test_store.specs.Held.{namespace_of, namespace_text};
 
+use crate::namespace::Namespace;
 use bson_doc::{Array, Bson, Document};
 use command_parts::set_ok;
 use doc_query::{count_value, set};
 use std::alloc::{AllocError, Global};
 
 /// Which batch of a cursor an answer has.
-#[derive(Clone, Copy, Debug, PartialEq, Eq)]
+#[derive(Clone, Copy)]
 pub enum Batch {
     /// The first one.
     First,
@@ -33,6 +34,52 @@ impl Batch {
     }
 }
 
+// ---- fields of answers
+
+/// Sets a field in an answer to an array of these values.
+pub fn set_array(
+    alloc: Global,
+    answer: &mut Document,
+    name: &str,
+    values: Vec<Bson>,
+) -> Result<(), AllocError>
+    ensures { OnOk result
+        (answer.new ≡ put name.now (array (map value_of values.items)) answer.old) }
+{
+    let values = Array::from_vec(values);
+    set(alloc, answer, name, Bson::Array(values))
+}
+
+/// Sets a field in an answer to an array of these values, unless there are none.
+pub fn set_any(
+    alloc: Global,
+    answer: &mut Document,
+    name: &str,
+    values: Vec<Bson>,
+) -> Result<(), AllocError>
+    ensures { OnOk result (answer.new ≡ put_any name.now (map value_of values.items) answer.old) }
+{
+    if values.is_empty() {
+        return Ok(());
+    }
+    set_array(alloc, answer, name, values)
+}
+
+/// Sets the field `ns` in an answer to the text of a namespace.
+pub fn set_namespace(
+    alloc: Global,
+    answer: &mut Document,
+    namespace: Namespace<'_>,
+) -> Result<(), AllocError>
+    ensures { OnOk result (answer.new
+        ≡ put (codes "ns") (text (namespace_text (namespace_of namespace.entry))) answer.old) }
+{
+    let text = namespace.to_text(alloc)?;
+    set(alloc, answer, "ns", Bson::String(text))
+}
+
+// ---- answers with a number of documents
+
 /// Makes the answer with a number of documents in its field `n`.
 pub fn counted_answer(alloc: Global, count: usize) -> Result<Document, AllocError>
     requires { count < 2 ^ 63 }
@@ -44,18 +91,24 @@ pub fn counted_answer(alloc: Global, count: usize) -> Result<Document, AllocErro
     Ok(answer)
 }
 
-/// Makes the answer with a number of documents in its field `n`, and these errors of others.
-fn failed_answer(alloc: Global, count: usize, errors: Vec<Bson>) -> Result<Document, AllocError>
-    requires { count < 2 ^ 63 }
-    ensures { IfOk result (λ d. d ≡ (codes "n", count_value count)
-        ∷ (codes "writeErrors", array (map value_of errors.items)) ∷ ok_alone) }
+/// Sets the fields of the answer with a number of documents in its field `n`, and the errors of
+/// others, if there are any.
+fn set_written(
+    alloc: Global,
+    answer: &mut Document,
+    count: usize,
+    errors: Vec<Bson>,
+) -> Result<(), AllocError>
+    requires count { count < 2 ^ 63 }
+    requires none { answer.old ≡ [] }
+    ensures { OnOk result (answer.new ≡ written_pairs count (map value_of errors.items)) }
 {
-    let mut answer = Document::new(alloc);
-    set(alloc, &mut answer, "n", count_value(count))?;
-    let errors = Array::from_vec(errors);
-    set(alloc, &mut answer, "writeErrors", Bson::Array(errors))?;
-    set_ok(alloc, &mut answer)?;
-    Ok(answer)
+    set(alloc, answer, "n", count_value(count))?;
+    if errors.is_empty() {
+        return set_ok(alloc, answer);
+    }
+    set_array(alloc, answer, "writeErrors", errors)?;
+    set_ok(alloc, answer)
 }
 
 /// Makes the answer that says how many documents a command wrote, and why others, or statements,
@@ -68,30 +121,45 @@ pub fn written_answer(
     requires { count < 2 ^ 63 }
     ensures { IfOk result (λ d. d ≡ written_pairs count (map value_of errors.items)) }
 {
-    if errors.is_empty() {
-        counted_answer(alloc, count)
-    } else {
-        failed_answer(alloc, count, errors)
-    }
+    let mut answer = Document::new(alloc);
+    set_written(alloc, &mut answer, count, errors)?;
+    Ok(answer)
 }
 
-/// Makes the field `cursor` of an answer: a batch of documents, the id of the cursor that has more
-/// of them (0 if none has), and the namespace.
+// ---- answers with a batch of documents
+
+/// Sets the fields of a cursor in an answer: a batch of documents, the id of the cursor that has
+/// more of them (0 if none has), and the namespace.
+fn set_cursor(
+    alloc: Global,
+    cursor: &mut Document,
+    which: Batch,
+    batch: Vec<Bson>,
+    id: i64,
+    namespace: Namespace<'_>,
+) -> Result<(), AllocError>
+    requires { cursor.old ≡ [] }
+    ensures { OnOk result (cursor.new ≡ cursor_pairs which (map value_of batch.items) id
+        (namespace_text (namespace_of namespace.entry))) }
+{
+    set_array(alloc, cursor, which.name(), batch)?;
+    set(alloc, cursor, "id", Bson::Int64(id))?;
+    set_namespace(alloc, cursor, namespace)
+}
+
+/// Makes the field `cursor` of an answer.
 fn cursor_document(
     alloc: Global,
     which: Batch,
     batch: Vec<Bson>,
     id: i64,
-    namespace: String,
+    namespace: Namespace<'_>,
 ) -> Result<Document, AllocError>
-    ensures { IfOk result
-        (λ d. d ≡ cursor_pairs which (map value_of batch.items) id (string_bytes namespace)) }
+    ensures { IfOk result (λ d. d ≡ cursor_pairs which (map value_of batch.items) id
+        (namespace_text (namespace_of namespace.entry))) }
 {
     let mut cursor = Document::new(alloc);
-    let batch = Array::from_vec(batch);
-    set(alloc, &mut cursor, which.name(), Bson::Array(batch))?;
-    set(alloc, &mut cursor, "id", Bson::Int64(id))?;
-    set(alloc, &mut cursor, "ns", Bson::String(namespace))?;
+    set_cursor(alloc, &mut cursor, which, batch, id, namespace)?;
     Ok(cursor)
 }
 
@@ -102,10 +170,10 @@ pub fn cursor_answer(
     which: Batch,
     batch: Vec<Bson>,
     id: i64,
-    namespace: String,
+    namespace: Namespace<'_>,
 ) -> Result<Document, AllocError>
-    ensures { IfOk result
-        (λ d. d ≡ cursor_answer which (map value_of batch.items) id (string_bytes namespace)) }
+    ensures { IfOk result (λ d. d ≡ cursor_answer which (map value_of batch.items) id
+        (namespace_text (namespace_of namespace.entry))) }
 {
     let cursor = cursor_document(alloc, which, batch, id, namespace)?;
     let mut answer = Document::new(alloc);

@@ -45,7 +45,7 @@ use update::update;
 use wire_msg::Payload;
 
 /// What a request asks for.
-#[derive(Clone, Copy, Debug, PartialEq, Eq)]
+#[derive(Clone, Copy)]
 pub enum Command {
     Hello,
     LegacyHello,

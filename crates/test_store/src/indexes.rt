@@ -1,14 +1,14 @@
 //! The indexes of a collection. They are listed, and change no answer.
 
-ghost use Rattle.std.specs.Prelude.{◌≡◌, ◌∷◌, [], IfErr, IfOk, MatchOption, None, Ok, OnOk, Some};
-ghost use Rattle.std.specs.Prelude.{map, not};
+ghost use Rattle.std.specs.Prelude.{◌≡◌, ◌++◌, ◌∷◌, [], IfErr, IfOk, MatchOption, None, Ok, OnOk};
+ghost use Rattle.std.specs.Prelude.{Some, if◌then◌else◌, map, not};
 ghost use Rattle.std.specs.List.{list_any};
 ghost use Rattle.bson_doc.specs.{tree_of, value_of};
-ghost use Rattle.doc_query.specs.{IsFailure, inner, or_error};
+ghost use Rattle.doc_query.specs.{IsFailure, inner};
 ghost use Rattle.test_store.specs.Indexes.{has_index_fields, has_key, has_name};
 ghost use Rattle.test_store.specs.Indexes.{id_index, index_in, index_listing, index_view, is_index};
 ghost use Rattle.test_store.specs.Indexes.{is_index_field, is_key_document, may_have};
-ghost use Rattle.test_store.specs.Indexes.{with_index};
+ghost use Rattle.test_store.specs.Indexes.{with_asked, with_index};
 ghost use Rattle.test_store.specs.Indexes.{with_indexes};
 ghost use Rattle.test_store.specs.Options.{asks};
 
@@ -27,17 +27,22 @@ pub struct Index {
     pub key: Bson,
 }
 
+/// Makes the key of the index on `_id`.
+fn id_key(alloc: Global) -> Result<Bson, AllocError>
+    ensures { IfOk result (λ key. value_of key ≡ id_index.key) }
+{
+    let mut key = Document::new(alloc);
+    set(alloc, &mut key, "_id", Bson::Int32(1))?;
+    Ok(Bson::Document(key))
+}
+
 /// Makes the index on `_id`.
 fn id_index(alloc: Global) -> Result<Index, AllocError>
     ensures { IfOk result (λ i. index_view i ≡ id_index) }
 {
     let name = String::from_str(alloc, "_id_")?;
-    let mut key = Document::new(alloc);
-    set(alloc, &mut key, "_id", Bson::Int32(1))?;
-    Ok(Index {
-        name,
-        key: Bson::Document(key),
-    })
+    let key = id_key(alloc)?;
+    Ok(Index { name, key })
 }
 
 /// Makes the indexes of a new collection, which has the one on `_id`.
@@ -120,20 +125,6 @@ fn parts_of(value: &Bson) -> Option<(&str, &Bson)>
     }
 }
 
-/// Makes the index that a value asks for.
-fn index_in(alloc: Global, value: &Bson) -> Result<Index, Failure>
-    ensures ok { IfOk result (λ i. index_in (value_of value.now) ≡ Some (index_view i)) }
-    ensures refused { IfErr result
-        (λ e. IsFailure (or_error CommandError.Index (index_in (value_of value.now))) e) }
-{
-    let Some((name, key)) = parts_of(value) else {
-        return Err(Failure::Refused(CommandError::Index));
-    };
-    let name = String::from_str(alloc, name)?;
-    let key = key.try_clone()?;
-    Ok(Index { name, key })
-}
-
 /// Returns true if one of the indexes has this name.
 fn any_has_name(indexes: &[Index], name: &str) -> bool
     ensures { result ≡ list_any (has_name name.now) (map index_view indexes.now) }
@@ -148,42 +139,84 @@ fn any_has_key(indexes: &[Index], key: &Bson) -> bool
     indexes.iter().any(|index| is_equal(&index.key, key))
 }
 
-/// Returns true if this is one of the indexes.
-fn is_held(indexes: &[Index], index: &Index) -> bool
-    ensures { result ≡ list_any (is_index (index_view index.now)) (map index_view indexes.now) }
+/// Returns true if an index with this name and this key is one of the indexes.
+fn is_held(indexes: &[Index], name: &str, key: &Bson) -> bool
+    ensures { result ≡ list_any
+        (is_index (record { name = name.now; key = value_of key.now }))
+        (map index_view indexes.now) }
 {
-    let name = index.name.as_str();
-    indexes.iter().any(|other| other.name.as_str() == name && is_equal(&other.key, &index.key))
+    indexes.iter().any(|other| other.name.as_str() == name && is_equal(&other.key, key))
 }
 
 /// Returns true if this key is that of the index on `_id`.
 fn is_id_key(alloc: Global, key: &Bson) -> Result<bool, AllocError>
     ensures { IfOk result (λ is. is ≡ has_key (value_of key.now) id_index) }
 {
-    let index = id_index(alloc)?;
-    Ok(is_equal(&index.key, key))
+    let id_key = id_key(alloc)?;
+    let is_id_key = is_equal(&id_key, key);
+    drop(id_key);
+    Ok(is_id_key)
 }
 
-/// Adds an index, unless it is there.
-fn add_index(alloc: Global, index: Index, indexes: &mut Vec<Index>) -> Result<(), Failure>
-    ensures ok { OnOk result (with_index (index_view index) (map index_view indexes.old.items)
-        ≡ Ok (map index_view indexes.new.items)) }
-    ensures refused { IfErr result
-        (λ e. IsFailure (with_index (index_view index) (map index_view indexes.old.items)) e) }
+/// Returns true if an index with this name and this key is to be added, and false if it is there.
+///
+/// # Errors
+///
+/// Returns `IndexName` or `IndexKey` if another index has its name or its key, and `OutOfMemory` if
+/// memory runs out.
+fn is_added(alloc: Global, indexes: &[Index], name: &str, key: &Bson) -> Result<bool, Failure>
+    ensures ok { IfOk result (λ is_new.
+        with_index (record { name = name.now; key = value_of key.now })
+        (map index_view indexes.now) ≡ Ok (if is_new
+        then map index_view indexes.now ++ record { name = name.now; key = value_of key.now } ∷ []
+        else map index_view indexes.now)) }
+    ensures refused { IfErr result (λ e. IsFailure
+        (with_index (record { name = name.now; key = value_of key.now })
+        (map index_view indexes.now)) e) }
 {
-    if is_id_key(alloc, &index.key)? || is_held(indexes, &index) {
-        return Ok(());
+    if is_id_key(alloc, key)? || is_held(indexes, name, key) {
+        return Ok(false);
     }
-    if any_has_name(indexes, index.name.as_str()) {
+    if any_has_name(indexes, name) {
         return Err(Failure::Refused(CommandError::IndexName));
     }
-    if any_has_key(indexes, &index.key) {
+    if any_has_key(indexes, key) {
         return Err(Failure::Refused(CommandError::IndexKey));
     }
-    match indexes.push(index) {
-        Ok(()) => Ok(()),
-        Err(_) => Err(Failure::OutOfMemory),
+    Ok(true)
+}
+
+/// Appends the index with this name and this key.
+fn push_index(
+    alloc: Global,
+    indexes: &mut Vec<Index>,
+    name: &str,
+    key: &Bson,
+) -> Result<(), AllocError>
+    ensures { OnOk result (map index_view indexes.new.items ≡ map index_view indexes.old.items
+        ++ record { name = name.now; key = value_of key.now } ∷ []) }
+{
+    let name = String::from_str(alloc, name)?;
+    let key = key.try_clone()?;
+    indexes.push(Index { name, key })?;
+    Ok(())
+}
+
+/// Adds the index that a value asks for, unless it is there.
+fn add_index(alloc: Global, asked: &Bson, indexes: &mut Vec<Index>) -> Result<(), Failure>
+    ensures ok { OnOk result
+        (with_asked (value_of asked.now) (map index_view indexes.old.items)
+        ≡ Ok (map index_view indexes.new.items)) }
+    ensures refused { IfErr result (λ e. IsFailure
+        (with_asked (value_of asked.now) (map index_view indexes.old.items)) e) }
+{
+    let Some((name, key)) = parts_of(asked) else {
+        return Err(Failure::Refused(CommandError::Index));
+    };
+    if is_added(alloc, indexes, name, key)? {
+        push_index(alloc, indexes, name, key)?;
     }
+    Ok(())
 }
 
 /// Adds the indexes that the values ask for, in order.
@@ -199,8 +232,7 @@ pub fn add_indexes(alloc: Global, asked: &[Bson], indexes: &mut Vec<Index>) -> R
         (with_indexes (map value_of asked.now) (map index_view indexes.old.items)) e) }
 {
     for value in asked {
-        let index = index_in(alloc, value)?;
-        add_index(alloc, index, indexes)?;
+        add_index(alloc, value, indexes)?;
     }
     Ok(())
 }
@@ -229,15 +261,23 @@ pub fn copies(alloc: Global, indexes: &[Index]) -> Result<Vec<Index>, AllocError
     Ok(copies)
 }
 
+/// Sets the fields of the listing of an index.
+fn set_listing(alloc: Global, listing: &mut Document, index: &Index) -> Result<(), AllocError>
+    requires { listing.old ≡ [] }
+    ensures { OnOk result (inner listing.new ≡ index_listing (index_view index.now)) }
+{
+    set(alloc, listing, "v", Bson::Int32(2))?;
+    let key = index.key.try_clone()?;
+    set(alloc, listing, "key", key)?;
+    set_text(alloc, listing, "name", index.name.as_str())
+}
+
 /// Makes the listing of an index.
 fn listing(alloc: Global, index: &Index) -> Result<Document, AllocError>
     ensures { IfOk result (λ d. inner d ≡ index_listing (index_view index.now)) }
 {
     let mut listing = Document::new(alloc);
-    set(alloc, &mut listing, "v", Bson::Int32(2))?;
-    let key = index.key.try_clone()?;
-    set(alloc, &mut listing, "key", key)?;
-    set_text(alloc, &mut listing, "name", index.name.as_str())?;
+    set_listing(alloc, &mut listing, index)?;
     Ok(listing)
 }
 

@@ -4,8 +4,8 @@
 //! request by a stated function of what it holds (`reply_to`), which says what it holds then, too.
 //! A command that errs changes nothing. It knows no connection: a server that holds one calls it.
 //!
-//! Stands on command_parts, doc_stages, doc_update, wire_msg and wire_peer. test_server stands on it.
-//! Read first: `store`, then `commands`, and then `handling`.
+//! Stands on command_parts, doc_stages, doc_update, wire_msg and wire_peer. bsonserver stands on
+//! it. Read first: `store`, then `commands`, and then `handling`.
 #![tactic(auto)]
 
 mod adding;

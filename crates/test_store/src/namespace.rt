@@ -7,7 +7,7 @@ ghost use Rattle.test_store.specs.Held.{namespace_text};
 use std::alloc::{AllocError, Global};
 
 /// The names of a database and of a collection in it, borrowed.
-#[derive(Clone, Copy, Debug)]
+#[derive(Clone, Copy)]
 pub struct Namespace<'a> {
     /// The name of the database.
     pub database: &'a str,

@@ -18,7 +18,7 @@ use bson_raw::{RawBson, RawDocument};
 use wire_msg::Payload;
 
 /// A document whose fields are carried out or not.
-#[derive(Clone, Copy, Debug)]
+#[derive(Clone, Copy)]
 enum Scope {
     /// The body of this command.
     Body(Command),

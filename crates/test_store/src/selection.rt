@@ -1,13 +1,14 @@
 //! Selects documents of a collection: those that match a filter, sorted by keys, from one of them
 //! on, and no more than a limit.
 
-ghost use Rattle.std.specs.Prelude.{◌≡◌, IfErr, IfOk, Ok, map};
+ghost use Rattle.std.specs.Prelude.{◌≡◌, IfErr, IfOk, Ok, OnOk, map};
 ghost use Rattle.bson_elem.specs.{Spells, Tree};
 ghost use Rattle.bson_raw.specs.{document_bytes};
 ghost use Rattle.bson_doc.specs.{value_of};
 ghost use Rattle.doc_query.specs.{IsFailure};
 ghost use Rattle.test_store.specs.Held.{store_of};
-ghost use Rattle.test_store.specs.Selecting.{limited, selected, selection_in, selection_of};
+ghost use Rattle.test_store.specs.Selecting.{arranged, bounds_in, limited, selected};
+ghost use Rattle.test_store.specs.Selecting.{selection_in, selection_of};
 
 use crate::fields::{namespace_field, number_field};
 use crate::namespace::Namespace;
@@ -19,7 +20,7 @@ use doc_stages::{sort_field, sort_in, take_batch};
 use std::alloc::Global;
 
 /// Which documents are selected.
-#[derive(Debug, Drop)]
+#[derive(Drop)]
 pub struct Selection<'a> {
     /// The namespace whose documents are searched.
     pub namespace: Namespace<'a>,
@@ -31,6 +32,15 @@ pub struct Selection<'a> {
     pub skip: usize,
     /// The most documents after those, or 0 for all.
     pub limit: usize,
+}
+
+/// Reads how many of the documents that match are passed over, and the most after those.
+fn bounds_in(body: RawDocument<'_>) -> Result<(usize, usize), CommandError>
+    ensures { (t : Tree) → Spells t (document_bytes body.entry) → result ≡ bounds_in t }
+{
+    let skip = number_field(body, "skip", CommandError::Skip)?;
+    let limit = number_field(body, "limit", CommandError::Limit)?;
+    Ok((skip, limit))
 }
 
 /// Reads which documents a command selects. Its fields `name` and `filter` have these names.
@@ -49,8 +59,7 @@ pub fn selection_in<'a>(
     let namespace = namespace_field(body, name, error)?;
     let filter = filter_field(alloc, body, filter)?;
     let keys = sort_field(alloc, body)?;
-    let skip = number_field(body, "skip", CommandError::Skip)?;
-    let limit = number_field(body, "limit", CommandError::Limit)?;
+    let (skip, limit) = bounds_in(body)?;
     Ok(Selection {
         namespace,
         filter,
@@ -69,6 +78,20 @@ fn keep_limit(found: &mut Vec<Bson>, limit: usize)
     }
 }
 
+/// Sorts documents, and removes those that are passed over, and those after the limit.
+fn arrange(selection: &Selection<'_>, found: &mut Vec<Bson>) -> Result<(), Failure>
+    ensures ok { OnOk result (arranged (selection_of selection.now) (map value_of found.old.items)
+        ≡ Ok (map value_of found.new.items)) }
+    ensures refused { IfErr result (λ e. IsFailure
+        (arranged (selection_of selection.now) (map value_of found.old.items)) e) }
+{
+    sort_in(&selection.keys, found)?;
+    let skipped = take_batch(found, selection.skip)?;
+    drop(skipped);
+    keep_limit(found, selection.limit);
+    Ok(())
+}
+
 /// Returns copies of the documents that are selected, in order.
 pub fn selected(
     alloc: Global,
@@ -83,9 +106,6 @@ pub fn selected(
 {
     let documents = store.documents(selection.namespace);
     let mut found = found_in(alloc, &selection.filter, documents)?;
-    sort_in(&selection.keys, &mut found)?;
-    let skipped = take_batch(&mut found, selection.skip)?;
-    drop(skipped);
-    keep_limit(&mut found, selection.limit);
+    arrange(selection, &mut found)?;
     Ok(found)
 }

@@ -1,7 +1,7 @@
 //! Holds documents by namespace, and the cursors over what was found.
 
-ghost use Rattle.std.specs.Prelude.{◌≡◌, ◌≤◌, ◌<◌, IfErr, IfOk, MatchOption, None, OnErr, OnOk};
-ghost use Rattle.std.specs.Prelude.{Some, length, map};
+ghost use Rattle.std.specs.Prelude.{◌≡◌, ◌≤◌, ◌<◌, ◌++◌, ◌∷◌, [], IfErr, IfOk, MatchOption, None};
+ghost use Rattle.std.specs.Prelude.{OnErr, OnOk, Some, length, map};
 ghost use Rattle.bson_doc.specs.{value_of};
 ghost use Rattle.test_store.specs.Held.{closed_at, collection_index, collection_of, cursor_index};
 ghost use Rattle.test_store.specs.Held.{cursor_of, documents_in, empty_store, has_database};
@@ -98,6 +98,32 @@ impl Store {
         }
     }
 
+    /// Adds the collection of a namespace, with these indexes and documents.
+    fn push_collection(
+        &mut self,
+        namespace: Namespace<'_>,
+        indexes: Vec<Index>,
+        documents: Vec<Bson>,
+    ) -> Result<(), AllocError>
+        ensures pushed { OnOk result ((store_of self.new).collections
+            ≡ (store_of self.old).collections ++ record {
+              namespace = namespace_of namespace.entry;
+              indexes = map index_view indexes.items;
+              documents = map value_of documents.items;
+            } ∷ []) }
+        ensures unchanged { OnErr result
+            ((store_of self.new).collections ≡ (store_of self.old).collections) }
+        ensures cursors { (store_of self.new).cursors ≡ (store_of self.old).cursors }
+    {
+        let namespace = namespace.to_buf(self.allocator())?;
+        self.collections.push(Collection {
+            namespace,
+            indexes,
+            documents,
+        })?;
+        Ok(())
+    }
+
     /// Inserts documents into a namespace, after those that are there, and makes its collection if
     /// there is none.
     fn insert(
@@ -115,15 +141,8 @@ impl Store {
         match index_of(&self.collections, namespace) {
             Some(i) => self.collections[i].documents.append(&mut documents),
             None => {
-                let alloc = self.allocator();
-                let namespace = namespace.to_buf(alloc)?;
-                let indexes = first_indexes(alloc)?;
-                self.collections.push(Collection {
-                    namespace,
-                    indexes,
-                    documents,
-                })?;
-                Ok(())
+                let indexes = first_indexes(self.allocator())?;
+                self.push_collection(namespace, indexes, documents)
             }
         }
     }
@@ -213,14 +232,8 @@ impl Store {
                 Ok(())
             }
             None => {
-                let alloc = self.allocator();
-                let namespace = namespace.to_buf(alloc)?;
-                self.collections.push(Collection {
-                    namespace,
-                    indexes,
-                    documents: Vec::new(alloc),
-                })?;
-                Ok(())
+                let documents = Vec::new(self.allocator());
+                self.push_collection(namespace, indexes, documents)
             }
         }
     }
@@ -282,11 +295,10 @@ impl Store {
         if left.is_empty() {
             return Ok(0);
         }
-        let alloc = self.allocator();
-        let namespace = namespace.to_buf(alloc)?;
         let Some(id) = FIRST_CURSOR_ID.checked_add(self.cursors.len() as i64) else {
             return Err(AllocError);
         };
+        let namespace = namespace.to_buf(self.allocator())?;
         self.cursors.push(Cursor { namespace, left })?;
         Ok(id)
     }

@@ -4,12 +4,13 @@ ghost use Rattle.std.specs.Prelude.{◌≡◌, codes};
 ghost use Rattle.bson_elem.specs.{Spells, Tree};
 ghost use Rattle.bson_raw.specs.{document_bytes, first_named};
 ghost use Rattle.bson_doc.specs.{tree_of};
-ghost use Rattle.test_store.specs.Commands.{IsCarriedOut, aggregate};
+ghost use Rattle.test_store.specs.Commands.{IsCarriedOut, aggregate, aggregate_reply};
 ghost use Rattle.test_store.specs.Fields.{first_size};
-ghost use Rattle.test_store.specs.Held.{store_of};
+ghost use Rattle.test_store.specs.Held.{namespace_of, store_of};
 
 use crate::commands::find::answer_found;
 use crate::fields::{DEFAULT_BATCH_SIZE, namespace_field};
+use crate::namespace::Namespace;
 use crate::store::Store;
 use bson_doc::{Bson, Document};
 use bson_raw::RawDocument;
@@ -31,6 +32,27 @@ fn first_size(fields: &Document) -> Result<usize, CommandError>
     whole_of(size).ok_or(CommandError::FirstBatchSize)
 }
 
+/// Answers with the documents that the pipeline in these fields makes of a collection.
+fn answer_stages(
+    alloc: Global,
+    store: &mut Store,
+    namespace: Namespace<'_>,
+    fields: &Document,
+) -> Result<Document, Failure>
+    ensures carried { IsCarriedOut
+        (aggregate_reply (store_of store.old) (namespace_of namespace.entry) (tree_of fields.now))
+        (store_of store.old) result (store_of store.new) }
+    ensures steady { (store_of store.new).collections ≡ (store_of store.old).collections }
+{
+    let Some(stages) = array_field(fields, "pipeline") else {
+        return Err(Failure::Refused(CommandError::Stage));
+    };
+    let count = first_size(fields)?;
+    let found = after_stages(alloc, stages.as_slice(), store.documents(namespace))?;
+    let answer = answer_found(alloc, store, namespace, found, count, false)?;
+    Ok(answer)
+}
+
 /// Answers with the documents that a pipeline makes of a collection.
 pub fn aggregate(
     alloc: Global,
@@ -44,11 +66,5 @@ pub fn aggregate(
 {
     let namespace = namespace_field(body, "aggregate", CommandError::Aggregate)?;
     let fields = owned_body(alloc, body)?;
-    let Some(stages) = array_field(&fields, "pipeline") else {
-        return Err(Failure::Refused(CommandError::Stage));
-    };
-    let count = first_size(&fields)?;
-    let found = after_stages(alloc, stages.as_slice(), store.documents(namespace))?;
-    let answer = answer_found(alloc, store, namespace, found, count, false)?;
-    Ok(answer)
+    answer_stages(alloc, store, namespace, &fields)
 }

@@ -1,10 +1,12 @@
 //! Carries out the command createIndexes.
 
-ghost use Rattle.std.specs.Prelude.{◌≡◌, ◌<◌, ◌^◌, IfOk, OnErr, map};
+ghost use Rattle.std.specs.Prelude.{◌≡◌, ◌<◌, ◌^◌, [], IfOk, OnErr, OnOk, length, map};
 ghost use Rattle.bson_elem.specs.{Spells, Tree};
 ghost use Rattle.bson_raw.specs.{document_bytes};
+ghost use Rattle.bson_doc.specs.{value_of};
 ghost use Rattle.test_store.specs.Answers.{created_pairs};
-ghost use Rattle.test_store.specs.Commands.{IsCarriedOut, create_indexes, no_index_pairs};
+ghost use Rattle.test_store.specs.Commands.{IsCarriedOut, create_indexes, created_by};
+ghost use Rattle.test_store.specs.Commands.{created_reply, no_index_pairs};
 ghost use Rattle.test_store.specs.Held.{indexes_in, namespace_of, store_of};
 ghost use Rattle.test_store.specs.Indexes.{index_view};
 
@@ -17,6 +19,27 @@ use bson_raw::RawDocument;
 use command_parts::{error_answer, set_ok};
 use doc_query::{CommandError, Failure, array_field, count_value, owned_body, set};
 use std::alloc::{AllocError, Global};
+
+/// Sets the fields of the answer that tells how many indexes there were and are, and whether the
+/// collection is new.
+fn set_created(
+    alloc: Global,
+    answer: &mut Document,
+    before: usize,
+    after: usize,
+    is_new: bool,
+) -> Result<(), AllocError>
+    requires few { before < 2 ^ 63 }
+    requires fits { after < 2 ^ 63 }
+    requires none { answer.old ≡ [] }
+    ensures { OnOk result (answer.new ≡ created_pairs before after is_new) }
+{
+    set(alloc, answer, "numIndexesBefore", count_value(before))?;
+    set(alloc, answer, "numIndexesAfter", count_value(after))?;
+    let is_new = Bson::Boolean(is_new);
+    set(alloc, answer, "createdCollectionAutomatically", is_new)?;
+    set_ok(alloc, answer)
+}
 
 /// Makes the answer that tells how many indexes there were and are, and whether the collection is
 /// new.
@@ -31,11 +54,7 @@ fn created_answer(
     ensures { IfOk result (λ d. d ≡ created_pairs before after is_new) }
 {
     let mut answer = Document::new(alloc);
-    set(alloc, &mut answer, "numIndexesBefore", count_value(before))?;
-    set(alloc, &mut answer, "numIndexesAfter", count_value(after))?;
-    let is_new = Bson::Boolean(is_new);
-    set(alloc, &mut answer, "createdCollectionAutomatically", is_new)?;
-    set_ok(alloc, &mut answer)?;
+    set_created(alloc, &mut answer, before, after, is_new)?;
     Ok(answer)
 }
 
@@ -66,6 +85,54 @@ fn no_index(alloc: Global) -> Result<Document, AllocError>
     )
 }
 
+/// Puts indexes in the place of those of a collection, and answers with how many there were and
+/// are.
+fn put_created(
+    alloc: Global,
+    store: &mut Store,
+    namespace: Namespace<'_>,
+    before: usize,
+    indexes: Vec<Index>,
+) -> Result<Document, AllocError>
+    requires were { before ≡ length (indexes_in (namespace_of namespace)
+        (store_of store.old).collections) }
+    requires few { before < 2 ^ 63 }
+    ensures answered { IfOk result (λ d. created_reply (store_of store.old)
+        (namespace_of namespace.entry) (map index_view indexes.items)
+        ≡ record { answer = d; held = store_of store.new }) }
+    ensures kept { OnErr result
+        ((store_of store.new).collections ≡ (store_of store.old).collections) }
+{
+    let is_new = store.indexes(namespace).is_none();
+    let answer = created_answer(alloc, before, indexes.len(), is_new)?;
+    store.put_indexes(namespace, indexes)?;
+    Ok(answer)
+}
+
+/// Makes the indexes of a collection that these values ask for, and the collection if there is
+/// none.
+fn created_by(
+    alloc: Global,
+    store: &mut Store,
+    namespace: Namespace<'_>,
+    asked: &[Bson],
+) -> Result<Document, Failure>
+    ensures carried { IsCarriedOut
+        (created_by (store_of store.old) (namespace_of namespace.entry) (map value_of asked.now))
+        (store_of store.old) result (store_of store.new) }
+    ensures kept { OnErr result
+        ((store_of store.new).collections ≡ (store_of store.old).collections) }
+{
+    if asked.is_empty() {
+        return Ok(no_index(alloc)?);
+    }
+    let mut indexes = indexes_in(alloc, store, namespace)?;
+    let before = indexes.len();
+    add_indexes(alloc, asked, &mut indexes)?;
+    let answer = put_created(alloc, store, namespace, before, indexes)?;
+    Ok(answer)
+}
+
 /// Makes indexes of a collection, and the collection if there is none.
 pub fn create_indexes(
     alloc: Global,
@@ -83,16 +150,5 @@ pub fn create_indexes(
     let Some(asked) = array_field(&fields, "indexes") else {
         return Err(Failure::Refused(CommandError::Indexes));
     };
-    let asked = asked.as_slice();
-    if asked.is_empty() {
-        let answer = no_index(alloc)?;
-        return Ok(answer);
-    }
-    let is_new = store.indexes(namespace).is_none();
-    let mut indexes = indexes_in(alloc, store, namespace)?;
-    let before = indexes.len();
-    add_indexes(alloc, asked, &mut indexes)?;
-    let answer = created_answer(alloc, before, indexes.len(), is_new)?;
-    store.put_indexes(namespace, indexes)?;
-    Ok(answer)
+    created_by(alloc, store, namespace, asked.as_slice())
 }

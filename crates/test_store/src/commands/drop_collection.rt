@@ -1,20 +1,38 @@
 //! Carries out the command drop.
 
-ghost use Rattle.std.specs.Prelude.{OnErr, ◌≡◌, ◌<◌, ◌^◌, IfOk};
+ghost use Rattle.std.specs.Prelude.{◌≡◌, ◌<◌, ◌^◌, [], IfOk, OnErr, OnOk};
 ghost use Rattle.bson_elem.specs.{Spells, Tree};
 ghost use Rattle.bson_raw.specs.{document_bytes};
 ghost use Rattle.test_store.specs.Answers.{dropped_pairs};
 ghost use Rattle.test_store.specs.Commands.{IsCarriedOut, drop_collection};
 ghost use Rattle.test_store.specs.Held.{namespace_of, namespace_text, store_of};
 
+use crate::answer::set_namespace;
 use crate::fields::namespace_field;
 use crate::namespace::Namespace;
 use crate::store::Store;
-use bson_doc::{Bson, Document};
+use bson_doc::Document;
 use bson_raw::RawDocument;
 use command_parts::set_ok;
 use doc_query::{CommandError, Failure, count_value, set};
 use std::alloc::{AllocError, Global};
+
+/// Sets the fields of the answer that says that a collection with so many indexes was dropped.
+fn set_dropped(
+    alloc: Global,
+    answer: &mut Document,
+    indexes: usize,
+    namespace: Namespace<'_>,
+) -> Result<(), AllocError>
+    requires few { indexes < 2 ^ 63 }
+    requires none { answer.old ≡ [] }
+    ensures { OnOk result
+        (answer.new ≡ dropped_pairs indexes (namespace_text (namespace_of namespace.entry))) }
+{
+    set(alloc, answer, "nIndexesWas", count_value(indexes))?;
+    set_namespace(alloc, answer, namespace)?;
+    set_ok(alloc, answer)
+}
 
 /// Makes the answer that says that a collection with so many indexes was dropped.
 fn dropped_answer(
@@ -27,10 +45,7 @@ fn dropped_answer(
         (λ d. d ≡ dropped_pairs indexes (namespace_text (namespace_of namespace.entry))) }
 {
     let mut answer = Document::new(alloc);
-    set(alloc, &mut answer, "nIndexesWas", count_value(indexes))?;
-    let text = namespace.to_text(alloc)?;
-    set(alloc, &mut answer, "ns", Bson::String(text))?;
-    set_ok(alloc, &mut answer)?;
+    set_dropped(alloc, &mut answer, indexes, namespace)?;
     Ok(answer)
 }
 

@@ -6,9 +6,9 @@ ghost use Rattle.bson_raw.specs.{document_bytes};
 ghost use Rattle.bson_doc.specs.{value_of};
 ghost use Rattle.doc_query.specs.{IsFailure};
 ghost use Rattle.test_store.specs.Commands.{IsCarriedOut, find, find_reply_to, found_reply};
-ghost use Rattle.test_store.specs.Commands.{left_of, query_in};
+ghost use Rattle.test_store.specs.Commands.{left_of, query_in, shape_in};
 ghost use Rattle.test_store.specs.Held.{namespace_of, store_of};
-ghost use Rattle.test_store.specs.Queries.{query_of};
+ghost use Rattle.test_store.specs.Queries.{query_of, shape_of};
 
 use crate::answer::{Batch, cursor_answer};
 use crate::fields::{first_batch_size, flag_field};
@@ -22,16 +22,40 @@ use doc_stages::{next_batch, projected, projection_field};
 use std::alloc::{AllocError, Global};
 
 /// What find asks for.
-#[derive(Debug, Drop)]
+#[derive(Drop)]
 struct Query<'a> {
     /// The documents that are found.
     selection: Selection<'a>,
+    /// What is told of them.
+    shape: Shape,
+}
+
+/// What find asks for beside the documents that are found.
+#[derive(Drop)]
+struct Shape {
     /// The most documents in the first batch.
     count: usize,
     /// Whether no cursor is opened over the others.
     is_single: bool,
     /// The fields that are kept of them.
     projection: Document,
+}
+
+/// Reads what find asks for beside the documents that are found.
+fn shape_in(alloc: Global, body: RawDocument<'_>) -> Result<Shape, Failure>
+    ensures ok { (t : Tree) → Spells t (document_bytes body.entry)
+        → IfOk result (λ s. shape_in t ≡ Ok (shape_of s)) }
+    ensures refused { (t : Tree) → Spells t (document_bytes body.entry)
+        → IfErr result (λ e. IsFailure (shape_in t) e) }
+{
+    let count = first_batch_size(body)?;
+    let is_single = flag_field(body, "singleBatch", false, CommandError::SingleBatch)?;
+    let projection = projection_field(alloc, body)?;
+    Ok(Shape {
+        count,
+        is_single,
+        projection,
+    })
 }
 
 /// Reads what find asks for.
@@ -42,15 +66,8 @@ fn query_in(alloc: Global, body: RawDocument<'_>) -> Result<Query<'_>, Failure>
         → IfErr result (λ e. IsFailure (query_in t) e) }
 {
     let selection = selection_in(alloc, body, "find", CommandError::Find, "filter")?;
-    let count = first_batch_size(body)?;
-    let is_single = flag_field(body, "singleBatch", false, CommandError::SingleBatch)?;
-    let projection = projection_field(alloc, body)?;
-    Ok(Query {
-        selection,
-        count,
-        is_single,
-        projection,
-    })
+    let shape = shape_in(alloc, body)?;
+    Ok(Query { selection, shape })
 }
 
 /// Removes all documents if no cursor is to be opened over them.
@@ -80,8 +97,7 @@ pub fn answer_found(
     let batch = next_batch(&mut found, count)?;
     keep_for_cursor(&mut found, is_single);
     let id = store.open_cursor(namespace, found)?;
-    let text = namespace.to_text(alloc)?;
-    cursor_answer(alloc, Batch::First, batch, id, text)
+    cursor_answer(alloc, Batch::First, batch, id, namespace)
 }
 
 /// Answers with the first documents that a query finds, and opens a cursor over the others.
@@ -92,9 +108,10 @@ fn answer_query(alloc: Global, store: &mut Store, query: &Query<'_>) -> Result<D
 {
     let namespace = query.selection.namespace;
     let found = selected(alloc, store, &query.selection)?;
-    let found = projected(alloc, &query.projection, found)?;
-    let count = query.count;
-    let answer = answer_found(alloc, store, namespace, found, count, query.is_single)?;
+    let shape = &query.shape;
+    let found = projected(alloc, &shape.projection, found)?;
+    let count = shape.count;
+    let answer = answer_found(alloc, store, namespace, found, count, shape.is_single)?;
     Ok(answer)
 }
 

@@ -29,8 +29,7 @@ fn answer_next(
     ensures steady { (store_of store.new).collections ≡ (store_of store.old).collections }
 {
     let (batch, id) = store.next_batch(id, namespace, count)?;
-    let text = namespace.to_text(alloc)?;
-    let answer = cursor_answer(alloc, Batch::Next, batch, id, text)?;
+    let answer = cursor_answer(alloc, Batch::Next, batch, id, namespace)?;
     Ok(answer)
 }
 

@@ -1,21 +1,41 @@
 //! Carries out the command killCursors.
 
-ghost use Rattle.std.specs.Prelude.{◌≡◌, IfOk, map};
+ghost use Rattle.std.specs.Prelude.{◌≡◌, [], IfOk, OnOk, map};
 ghost use Rattle.bson_elem.specs.{Spells, Tree};
 ghost use Rattle.bson_raw.specs.{document_bytes};
 ghost use Rattle.bson_doc.specs.{value_of};
 ghost use Rattle.test_store.specs.Answers.{killed_pairs};
-ghost use Rattle.test_store.specs.Commands.{IsCarriedOut, kill_cursors, kill_reply};
+ghost use Rattle.test_store.specs.Commands.{IsCarriedOut, kill_cursors, kill_each, kill_reply};
+ghost use Rattle.test_store.specs.Commands.{killing_so_far};
 ghost use Rattle.test_store.specs.Held.{namespace_of, store_of};
 
+use crate::answer::set_array;
 use crate::fields::namespace_field;
 use crate::namespace::Namespace;
 use crate::store::Store;
-use bson_doc::{Array, Bson, Document};
+use bson_doc::{Bson, Document};
 use bson_raw::RawDocument;
 use command_parts::set_ok;
-use doc_query::{CommandError, Failure, array_field, owned_body, set};
+use doc_query::{CommandError, Failure, array_field, owned_body};
 use std::alloc::{AllocError, Global};
+
+/// Sets the fields of the answer that says which cursors were closed, and which weren't open.
+fn set_killed(
+    alloc: Global,
+    answer: &mut Document,
+    killed: Vec<Bson>,
+    missing: Vec<Bson>,
+) -> Result<(), AllocError>
+    requires { answer.old ≡ [] }
+    ensures { OnOk result (answer.new
+        ≡ killed_pairs (map value_of killed.items) (map value_of missing.items)) }
+{
+    set_array(alloc, answer, "cursorsKilled", killed)?;
+    set_array(alloc, answer, "cursorsNotFound", missing)?;
+    set_array(alloc, answer, "cursorsAlive", Vec::new(alloc))?;
+    set_array(alloc, answer, "cursorsUnknown", Vec::new(alloc))?;
+    set_ok(alloc, answer)
+}
 
 /// Makes the answer that says which cursors were closed, and which weren't open.
 fn killed_answer(
@@ -27,16 +47,35 @@ fn killed_answer(
         (λ d. d ≡ killed_pairs (map value_of killed.items) (map value_of missing.items)) }
 {
     let mut answer = Document::new(alloc);
-    let killed = Array::from_vec(killed);
-    set(alloc, &mut answer, "cursorsKilled", Bson::Array(killed))?;
-    let missing = Array::from_vec(missing);
-    set(alloc, &mut answer, "cursorsNotFound", Bson::Array(missing))?;
-    let alive = Array::from_vec(Vec::new(alloc));
-    set(alloc, &mut answer, "cursorsAlive", Bson::Array(alive))?;
-    let unknown = Array::from_vec(Vec::new(alloc));
-    set(alloc, &mut answer, "cursorsUnknown", Bson::Array(unknown))?;
-    set_ok(alloc, &mut answer)?;
+    set_killed(alloc, &mut answer, killed, missing)?;
     Ok(answer)
+}
+
+/// Closes those of the cursors that are open, and appends each id to those of the cursors that were
+/// closed, or to those that weren't open.
+fn close_each(
+    store: &mut Store,
+    namespace: Namespace<'_>,
+    ids: &[Bson],
+    killed: &mut Vec<Bson>,
+    missing: &mut Vec<Bson>,
+) -> Result<(), AllocError>
+    ensures closed { OnOk result (kill_each (namespace_of namespace.entry) (map value_of ids.now)
+        (killing_so_far (store_of store.old) (map value_of killed.old.items)
+        (map value_of missing.old.items))
+        ≡ killing_so_far (store_of store.new) (map value_of killed.new.items)
+        (map value_of missing.new.items)) }
+    ensures steady { (store_of store.new).collections ≡ (store_of store.old).collections }
+{
+    for id in ids {
+        let copy = id.try_clone()?;
+        if store.close_cursor(id, namespace) {
+            killed.push(copy)?;
+        } else {
+            missing.push(copy)?;
+        }
+    }
+    Ok(())
 }
 
 /// Closes those of the cursors that are open, and answers with what became of each.
@@ -53,14 +92,7 @@ fn close_all(
 {
     let mut killed = Vec::new(alloc);
     let mut missing = Vec::new(alloc);
-    for id in ids {
-        let copy = id.try_clone()?;
-        if store.close_cursor(id, namespace) {
-            killed.push(copy)?;
-        } else {
-            missing.push(copy)?;
-        }
-    }
+    close_each(store, namespace, ids, &mut killed, &mut missing)?;
     killed_answer(alloc, killed, missing)
 }
 

@@ -1,9 +1,9 @@
 //! Carries out the command listCollections.
 
-ghost use Rattle.std.specs.Prelude.{◌≡◌, IfOk, map, codes, false, ◌∷◌, []};
+ghost use Rattle.std.specs.Prelude.{◌≡◌, IfOk, OnOk, map, codes, false, ◌∷◌, []};
 ghost use Rattle.bson_elem.specs.{Spells, Tree};
 ghost use Rattle.bson_raw.specs.{document_bytes};
-ghost use Rattle.bson_doc.specs.{value_of, tree_of};
+ghost use Rattle.bson_doc.specs.{put, tree_of, value_of};
 ghost use Rattle.doc_query.specs.{inner, truth};
 ghost use Rattle.test_store.specs.Answers.{listing};
 ghost use Rattle.test_store.specs.Commands.{IsCarriedOut, list_collections, list_reply, listings};
@@ -28,19 +28,43 @@ fn info(alloc: Global) -> Result<Document, AllocError>
     Ok(info)
 }
 
+/// Sets the fields of a listing that aren't asked for with `nameOnly`.
+fn set_details(alloc: Global, listing: &mut Document) -> Result<(), AllocError>
+    ensures { OnOk result (listing.new
+        ≡ put (codes "info") (inner ((codes "readOnly", truth false) ∷ []))
+        (put (codes "options") (inner []) listing.old)) }
+{
+    let options = Document::new(alloc);
+    set(alloc, listing, "options", Bson::Document(options))?;
+    let info = info(alloc)?;
+    set(alloc, listing, "info", Bson::Document(info))
+}
+
+/// Sets the fields of the listing of the collection with this name: with `name_only` its name and
+/// type alone.
+fn set_listing(
+    alloc: Global,
+    document: &mut Document,
+    name: &str,
+    name_only: bool,
+) -> Result<(), AllocError>
+    requires { document.old ≡ [] }
+    ensures { OnOk result (inner document.new ≡ listing name_only name.now) }
+{
+    set_text(alloc, document, "name", name)?;
+    set_text(alloc, document, "type", "collection")?;
+    if name_only {
+        return Ok(());
+    }
+    set_details(alloc, document)
+}
+
 /// Makes the listing of the collection with this name: with `name_only` its name and type alone.
 fn listing(alloc: Global, name: &str, name_only: bool) -> Result<Document, AllocError>
     ensures { IfOk result (λ d. inner d ≡ listing name_only name.now) }
 {
     let mut listing = Document::new(alloc);
-    set_text(alloc, &mut listing, "name", name)?;
-    set_text(alloc, &mut listing, "type", "collection")?;
-    if !name_only {
-        let options = Document::new(alloc);
-        let info = info(alloc)?;
-        set(alloc, &mut listing, "options", Bson::Document(options))?;
-        set(alloc, &mut listing, "info", Bson::Document(info))?;
-    }
+    set_listing(alloc, &mut listing, name, name_only)?;
     Ok(listing)
 }
 
@@ -81,6 +105,7 @@ fn answer_list(
 {
     let all = listings(alloc, &store.collections, database, name_only)?;
     let found = matching(alloc, filter, &all)?;
+    drop(all);
     let namespace = Namespace {
         database,
         collection: "$cmd.listCollections",

@@ -1,18 +1,18 @@
 //! Carries out the command listDatabases.
 
-ghost use Rattle.std.specs.Prelude.{◌≡◌, IfOk, map};
+ghost use Rattle.std.specs.Prelude.{◌≡◌, [], IfOk, OnOk, map};
 ghost use Rattle.bson_elem.specs.{Spells, Tree};
 ghost use Rattle.bson_raw.specs.{document_bytes};
 ghost use Rattle.bson_doc.specs.{tree_of, value_of};
-ghost use Rattle.doc_query.specs.{inner};
+ghost use Rattle.doc_query.specs.{found, inner};
 ghost use Rattle.test_store.specs.Answers.{database_listing, databases_pairs};
-ghost use Rattle.test_store.specs.Commands.{IsCarriedOut, database_listings, databases_answer};
-ghost use Rattle.test_store.specs.Commands.{list_databases};
+ghost use Rattle.test_store.specs.Commands.{IsCarriedOut, database_listings, list_databases};
 ghost use Rattle.test_store.specs.Held.{collection_of, store_of};
 
+use crate::answer::set_array;
 use crate::fields::name_only_field;
 use crate::store::{Collection, Store, has_database};
-use bson_doc::{Array, Bson, Document};
+use bson_doc::{Bson, Document};
 use bson_raw::RawDocument;
 use command_parts::{set_ok, set_text};
 use doc_query::{Failure, filter_field, matching, set};
@@ -51,6 +51,25 @@ fn listings(
     Ok(found)
 }
 
+/// Sets the fields of the answer with these listings, and unless it is for names alone with their
+/// sizes' sum.
+fn set_databases(
+    alloc: Global,
+    answer: &mut Document,
+    listings: Vec<Bson>,
+    name_only: bool,
+) -> Result<(), AllocError>
+    requires { answer.old ≡ [] }
+    ensures { OnOk result
+        (answer.new ≡ databases_pairs name_only (map value_of listings.items)) }
+{
+    set_array(alloc, answer, "databases", listings)?;
+    if !name_only {
+        set(alloc, answer, "totalSize", Bson::Int64(0))?;
+    }
+    set_ok(alloc, answer)
+}
+
 /// Makes the answer with these listings, and unless it is for names alone with their sizes' sum.
 fn databases_answer(
     alloc: Global,
@@ -60,13 +79,24 @@ fn databases_answer(
     ensures { IfOk result (λ d. d ≡ databases_pairs name_only (map value_of listings.items)) }
 {
     let mut answer = Document::new(alloc);
-    let listings = Array::from_vec(listings);
-    set(alloc, &mut answer, "databases", Bson::Array(listings))?;
-    if !name_only {
-        set(alloc, &mut answer, "totalSize", Bson::Int64(0))?;
-    }
-    set_ok(alloc, &mut answer)?;
+    set_databases(alloc, &mut answer, listings, name_only)?;
     Ok(answer)
+}
+
+/// Answers with those of the listings of all databases that match a filter.
+fn answer_list(
+    alloc: Global,
+    collections: &[Collection],
+    name_only: bool,
+    filter: &Document,
+) -> Result<Document, AllocError>
+    ensures { IfOk result (λ d. d ≡ databases_pairs name_only (found (tree_of filter.now)
+        (database_listings name_only (map collection_of collections.now)))) }
+{
+    let all = listings(alloc, collections, name_only)?;
+    let found = matching(alloc, filter, &all)?;
+    drop(all);
+    databases_answer(alloc, found, name_only)
 }
 
 /// Answers with the listings of the databases that match a filter.
@@ -82,8 +112,6 @@ pub fn list_databases(
 {
     let name_only = name_only_field(body)?;
     let filter = filter_field(alloc, body, "filter")?;
-    let all = listings(alloc, &store.collections, name_only)?;
-    let found = matching(alloc, &filter, &all)?;
-    let answer = databases_answer(alloc, found, name_only)?;
+    let answer = answer_list(alloc, &store.collections, name_only, &filter)?;
     Ok(answer)
 }

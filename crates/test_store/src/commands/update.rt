@@ -1,16 +1,19 @@
 //! Carries out the command update.
 
-ghost use Rattle.std.specs.Prelude.{◌≡◌, ◌∷◌, [], IfOk, OnErr, OnOk, codes, map};
-ghost use Rattle.bson_doc.specs.{value_of};
+ghost use Rattle.std.specs.Prelude.{◌≡◌, ◌≤◌, ◌∷◌, [], IfOk, OnErr, OnOk, codes, length, map};
+ghost use Rattle.bson_doc.specs.{put, value_of};
 ghost use Rattle.wire_msg.specs.{Carries, Content};
 ghost use Rattle.doc_query.specs.{count_value};
-ghost use Rattle.test_store.specs.Answers.{put_any, updated_pairs};
-ghost use Rattle.test_store.specs.Commands.{IsCarriedOut, update};
-ghost use Rattle.test_store.specs.Held.{store_of};
+ghost use Rattle.doc_update.specs.Updating.{updates_view};
+ghost use Rattle.test_store.specs.Answers.{updated_pairs};
+ghost use Rattle.test_store.specs.Commands.{IsCarriedOut, update, update_by, update_reply};
+ghost use Rattle.test_store.specs.Held.{namespace_of, store_of};
 
+use crate::answer::set_any;
 use crate::fields::{flag_field, namespace_field};
+use crate::namespace::Namespace;
 use crate::store::Store;
-use bson_doc::{Array, Bson, Document};
+use bson_doc::{Bson, Document};
 use command_parts::{brought_documents, set_ok};
 use doc_query::{CommandError, Failure, count_value, set};
 use doc_update::{Updates, after_updates};
@@ -20,49 +23,60 @@ use wire_msg::Payload;
 /// More documents than any memory has room for.
 const TOO_MANY: usize = 1 << 63;
 
-/// Returns a number of documents as a value.
+/// Sets a field in the answer to a number of documents.
 ///
 /// # Errors
 ///
-/// Returns `AllocError` if it is more than an int64.
-fn counted(count: usize) -> Result<Bson, AllocError>
-    ensures { IfOk result (λ v. value_of v ≡ count_value count) }
+/// Returns `AllocError` if it is more than an int64, or memory runs out.
+fn set_count(
+    alloc: Global,
+    answer: &mut Document,
+    name: &str,
+    count: usize,
+) -> Result<(), AllocError>
+    ensures { OnOk result (answer.new ≡ put name.now (count_value count) answer.old) }
 {
     if count < TOO_MANY {
-        Ok(count_value(count))
+        set(alloc, answer, name, count_value(count))
     } else {
         Err(AllocError)
     }
 }
 
-/// Makes the beginning of the answer: how many documents matched or were inserted, and how many
+/// Sets the first fields of the answer: how many documents matched or were inserted, and how many
 /// became others.
-fn counts(alloc: Global, matched: usize, modified: usize) -> Result<Document, AllocError>
-    ensures { IfOk result (λ d. d
-        ≡ (codes "n", count_value matched) ∷ (codes "nModified", count_value modified) ∷ []) }
-{
-    let matched = counted(matched)?;
-    let modified = counted(modified)?;
-    let mut answer = Document::new(alloc);
-    set(alloc, &mut answer, "n", matched)?;
-    set(alloc, &mut answer, "nModified", modified)?;
-    Ok(answer)
-}
-
-/// Sets a field in the answer to an array of these values, unless there are none.
-fn set_any(
+fn set_counts(
     alloc: Global,
     answer: &mut Document,
-    name: &str,
-    values: Vec<Bson>,
+    matched: usize,
+    modified: usize,
 ) -> Result<(), AllocError>
-    ensures { OnOk result (answer.new ≡ put_any name.now (map value_of values.items) answer.old) }
+    requires { answer.old ≡ [] }
+    ensures { OnOk result (answer.new
+        ≡ (codes "n", count_value matched) ∷ (codes "nModified", count_value modified) ∷ []) }
 {
-    if values.is_empty() {
-        return Ok(());
-    }
-    let values = Array::from_vec(values);
-    set(alloc, answer, name, Bson::Array(values))
+    set_count(alloc, answer, "n", matched)?;
+    set_count(alloc, answer, "nModified", modified)
+}
+
+/// Sets the fields of the answer: how many documents matched or were inserted, how many became
+/// others, which statements inserted one, and why others weren't carried out.
+fn set_updated(
+    alloc: Global,
+    answer: &mut Document,
+    matched: usize,
+    modified: usize,
+    upserted: Vec<Bson>,
+    errors: Vec<Bson>,
+) -> Result<(), AllocError>
+    requires { answer.old ≡ [] }
+    ensures { OnOk result (answer.new ≡ updated_pairs matched modified
+        (map value_of upserted.items) (map value_of errors.items)) }
+{
+    set_counts(alloc, answer, matched, modified)?;
+    set_any(alloc, answer, "upserted", upserted)?;
+    set_any(alloc, answer, "writeErrors", errors)?;
+    set_ok(alloc, answer)
 }
 
 /// Makes the answer: how many documents matched or were inserted, how many became others, which
@@ -77,11 +91,55 @@ fn updated_answer(
     ensures { IfOk result (λ d. d ≡ updated_pairs matched modified
         (map value_of upserted.items) (map value_of errors.items)) }
 {
-    let mut answer = counts(alloc, matched, modified)?;
-    set_any(alloc, &mut answer, "upserted", upserted)?;
-    set_any(alloc, &mut answer, "writeErrors", errors)?;
-    set_ok(alloc, &mut answer)?;
+    let mut answer = Document::new(alloc);
+    set_updated(alloc, &mut answer, matched, modified, upserted, errors)?;
     Ok(answer)
+}
+
+/// Puts what statements made of the documents of a namespace in their place, and answers with what
+/// they did.
+fn put_updated(
+    alloc: Global,
+    store: &mut Store,
+    namespace: Namespace<'_>,
+    updates: Updates,
+) -> Result<Document, AllocError>
+    ensures answered { IfOk result (λ d.
+        update_reply (store_of store.old) (namespace_of namespace.entry) (updates_view updates)
+        ≡ record { answer = d; held = store_of store.new }) }
+    ensures kept { OnErr result
+        ((store_of store.new).collections ≡ (store_of store.old).collections) }
+{
+    let Updates {
+        documents,
+        matched,
+        modified,
+        upserted,
+        errors,
+    } = updates;
+    let answer = updated_answer(alloc, matched, modified, upserted, errors)?;
+    store.put_documents(namespace, documents)?;
+    Ok(answer)
+}
+
+/// Changes documents of a namespace, or inserts some, by statements.
+fn update_by(
+    alloc: Global,
+    store: &mut Store,
+    is_ordered: bool,
+    namespace: Namespace<'_>,
+    statements: &[Bson],
+) -> Result<Document, AllocError>
+    requires { length statements.now ≤ 100_000 }
+    ensures answered { IfOk result (λ d.
+        update_by (store_of store.old) (namespace_of namespace.entry) is_ordered
+        (map value_of statements.now) ≡ record { answer = d; held = store_of store.new }) }
+    ensures kept { OnErr result
+        ((store_of store.new).collections ≡ (store_of store.old).collections) }
+{
+    let held = store.documents(namespace);
+    let updates = after_updates(alloc, is_ordered, statements, held)?;
+    put_updated(alloc, store, namespace, updates)
 }
 
 /// Changes documents, or inserts some, by the statements of the array `updates` in the body, or of
@@ -97,15 +155,7 @@ pub fn update(alloc: Global, store: &mut Store, payload: Payload<'_>) -> Result<
     let namespace = namespace_field(body, "update", CommandError::Update)?;
     let is_ordered = flag_field(body, "ordered", true, CommandError::Ordered)?;
     let statements = brought_documents(alloc, payload, "updates")?;
-    let held = store.documents(namespace);
-    let Updates {
-        documents,
-        matched,
-        modified,
-        upserted,
-        errors,
-    } = after_updates(alloc, is_ordered, statements.as_slice(), held)?;
-    let answer = updated_answer(alloc, matched, modified, upserted, errors)?;
-    store.put_documents(namespace, documents)?;
+    let statements = statements.as_slice();
+    let answer = update_by(alloc, store, is_ordered, namespace, statements)?;
     Ok(answer)
 }

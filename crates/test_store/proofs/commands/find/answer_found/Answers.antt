@@ -1,5 +1,4 @@
 use Rattle.std.proofs.Common.{rules, FitsSigned, map, to_z, of_z, ap, ◌∙◌}
-use Rattle.std.specs.Prelude.{string_bytes}
 use Rattle.std.specs.Int.{w64}
 use Rattle.std.proofs.lemmas.Int.{to_z-of_z}
 use Rattle.bson_doc.specs.Bson.{value_of}
@@ -13,8 +12,8 @@ returns-clause-answered c =
     let all = c.args.found.items in
     let fits : FitsSigned w64 c.in_ok-id.id = search rules in
     found_answered (store_of c.args.store.now) _ (namespace_of c.args.namespace) (map value_of all) c.args.count c.args.is_single (map value_of c.in_ok-batch.batch.items) (map value_of c.keep_for_cursor.new.left.items)
-    (to_z w64 (of_z w64 c.in_ok-id.id)) (string_bytes c.in_ok-text.text) c.cursor_answer.result
+    (to_z w64 (of_z w64 c.in_ok-id.id)) c.cursor_answer.result
     c.in_ok-batch.ensures.taken
     (ap (map value_of) c.keep_for_cursor.ensures ∙ left_of-map value_of c.args.is_single _ ∙ ap (left_of c.args.is_single) c.in_ok-batch.ensures.left)
     (to_z-of_z w64 c.in_ok-id.id fits ∙ c.in_ok-id.ensures.id)
-    c.in_ok-text.ensures c.in_ok-id.ensures.opened c.open_cursor.ensures.collections c.cursor_answer.ensures
+    c.in_ok-id.ensures.opened c.open_cursor.ensures.collections c.cursor_answer.ensures

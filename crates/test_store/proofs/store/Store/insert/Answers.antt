@@ -1,14 +1,14 @@
 use Rattle.std.proofs.Common.{◌≡◌, ◌++◌, List, [], ◌∷◌, Some, None, map, length, ap, sym, ◌∙◌, arith}
-use Rattle.std.proofs.lemmas.List.{map-append, map_push}
+use Rattle.std.proofs.lemmas.List.{map-append}
 use Rattle.std.proofs.Math.Seq.{map-set_same}
 use Rattle.bson_doc.specs.declared.bson_values.Bson.{Bson}
 use Rattle.bson_raw.specs.{TreeValue}
 use Rattle.bson_doc.specs.Bson.{value_of}
 use Rattle.test_store.specs.declared.store.Collection.{Collection}
-use Rattle.test_store.specs.Held.{NamespaceView, collection_index, collection_of, holding, namespace_of}
-use Rattle.test_store.specs.Indexes.{IndexView, index_view}
+use Rattle.test_store.specs.Held.{collection_index, collection_of, holding, namespace_of}
+use Rattle.test_store.specs.Indexes.{IndexView}
 use Rattle.test_store.proofs.Places.{inside, longer_collection, new_collection}
-use Rattle.test_store.proofs.Sizes.{on_err, on_ok}
+use Rattle.test_store.proofs.Sizes.{on_err, on_ok, on_ok_then}
 use Rattle.test_store.proofs.store.Store.insert.Goals as goal
 
 pub index_mut-requires : goal.index_mut-requires
@@ -38,15 +38,13 @@ returns-in-Some-clause-unchanged c =
     map-set_same collection_of items c.in-Some.i (record { namespace = x.namespace; indexes = x.indexes; documents = c.append.new.self }) x
     (ap (λ (l : List Bson). holding (map value_of l) (collection_of x)) kept ∙ ap collection_of c.index_mut.ensures.value))
 
-pub returns-in_ok-push-in-None-clause-inserted : goal.returns-in_ok-push-in-None-clause-inserted
-returns-in_ok-push-in-None-clause-inserted c =
+pub returns-in_ok-indexes-in-None-clause-inserted : goal.returns-in_ok-indexes-in-None-clause-inserted
+returns-in_ok-indexes-in-None-clause-inserted c =
     let n = namespace_of c.args.namespace in
     let items = c.args.self.now.collections.items in
+    let vs : List TreeValue = map value_of c.args.documents.items in
     let found : collection_index n (map collection_of items) ≡ None =
     ap (λ (l : List Collection). collection_index n (map collection_of l)) (sym c.deref.ensures.value) ∙ sym c.index_of.ensures ∙ c.in-None.is in
-    let new : Collection = record { namespace = c.in_ok-namespace-in-None.namespace; indexes = c.in_ok-indexes-in-None.indexes; documents = c.args.documents } in
-    let pushed : c.push.new.self.items ≡ items ++ new ∷ [] = c.in_ok-push-in-None.ensures.items in
-    ap (map collection_of) pushed ∙ map_push collection_of items new
-    ∙ ap (λ (v : NamespaceView). map collection_of items ++ record { namespace = v; indexes = map index_view c.in_ok-indexes-in-None.indexes.items; documents = map value_of c.args.documents.items } ∷ []) c.in_ok-namespace-in-None.ensures
-    ∙ ap (λ (is : List IndexView). map collection_of items ++ record { namespace = n; indexes = is; documents = map value_of c.args.documents.items } ∷ []) c.in_ok-indexes-in-None.ensures
-    ∙ sym (new_collection n (map value_of c.args.documents.items) (map collection_of items) found)
+    on_ok_then c.push_collection.result (λ is. is
+    ∙ ap (λ (is : List IndexView). map collection_of items ++ record { namespace = n; indexes = is; documents = vs } ∷ []) c.in_ok-indexes-in-None.ensures
+    ∙ sym (new_collection n vs (map collection_of items) found)) c.push_collection.ensures.pushed

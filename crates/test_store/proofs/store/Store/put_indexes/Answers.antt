@@ -1,11 +1,11 @@
 use Rattle.std.proofs.Common.{◌≡◌, ◌++◌, ◌∷◌, [], List, Some, None, map, length, refl, ap, sym, ◌∙◌, arith}
-use Rattle.std.proofs.lemmas.List.{map_push}
 use Rattle.bson_doc.specs.declared.bson_values.Bson.{Bson}
 use Rattle.bson_doc.specs.Bson.{value_of}
 use Rattle.test_store.specs.declared.store.Collection.{Collection}
-use Rattle.test_store.specs.Held.{NamespaceView, collection_index, collection_of, namespace_of}
-use Rattle.test_store.specs.Indexes.{index_view}
+use Rattle.test_store.specs.Held.{collection_index, collection_of, namespace_of}
+use Rattle.test_store.specs.Indexes.{IndexView, index_view}
 use Rattle.test_store.proofs.Places.{indexed_collection, inside, none_indexed}
+use Rattle.test_store.proofs.Sizes.{on_ok_then}
 use Rattle.test_store.proofs.store.Store.put_indexes.Goals as goal
 
 pub index_mut-requires : goal.index_mut-requires
@@ -24,15 +24,13 @@ returns-in-Some-clause-replaced c =
     let y : Collection = record { namespace = x.namespace; indexes = c.args.indexes; documents = x.documents } in
     indexed_collection n (map index_view c.args.indexes.items) items c.in-Some.i x y found c.index_mut.ensures.value refl
 
-pub returns-in_ok-push-in-None-clause-replaced : goal.returns-in_ok-push-in-None-clause-replaced
-returns-in_ok-push-in-None-clause-replaced c =
+pub returns-in-None-clause-replaced : goal.returns-in-None-clause-replaced
+returns-in-None-clause-replaced c =
     let n = namespace_of c.args.namespace in
     let items = c.args.self.now.collections.items in
+    let is : List IndexView = map index_view c.args.indexes.items in
     let found : collection_index n (map collection_of items) ≡ None =
     ap (λ (l : List Collection). collection_index n (map collection_of l)) (sym c.deref.ensures.value) ∙ sym c.index_of.ensures ∙ c.in-None.is in
-    let new : Collection = record { namespace = c.in_ok-namespace-in-None.namespace; indexes = c.args.indexes; documents = c.new.result } in
-    let pushed : c.push.new.self.items ≡ items ++ new ∷ [] = c.in_ok-push-in-None.ensures.items in
-    ap (map collection_of) pushed ∙ map_push collection_of items new
-    ∙ ap (λ (v : NamespaceView). map collection_of items ++ record { namespace = v; indexes = map index_view c.args.indexes.items; documents = map value_of c.new.result.items } ∷ []) c.in_ok-namespace-in-None.ensures
-    ∙ ap (λ (l : List Bson). map collection_of items ++ record { namespace = n; indexes = map index_view c.args.indexes.items; documents = map value_of l } ∷ []) c.new.ensures.items
-    ∙ sym (none_indexed n (map index_view c.args.indexes.items) (map collection_of items) found)
+    on_ok_then c.push_collection.result (λ pushed. pushed
+    ∙ ap (λ (l : List Bson). map collection_of items ++ record { namespace = n; indexes = is; documents = map value_of l } ∷ []) c.new-documents.ensures.items
+    ∙ sym (none_indexed n is (map collection_of items) found)) c.push_collection.ensures.pushed
