@@ -7,6 +7,7 @@ pub mod Written
 pub mod Lines
 pub mod Scripts
 pub mod Handling
+pub mod Faults
 -- the words that clauses of other crates cite
 pub use Rattle.test_script.specs.Rules.{RuleView, flow_of, is_live, meets, used}
 pub use Rattle.test_script.specs.Meeting.{IsFirstLive, after, first_met, flow_by, met, uses}
