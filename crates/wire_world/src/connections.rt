@@ -57,18 +57,18 @@ impl Connection {
         requires { AreGood limits }
         ensures { IfOk result (λ k. k ≡ new_conn limits number) }
     {
-        let Ok(client) = Client::new(alloc, limits.first_id, limits.window, limits.limit) else {
-            unreachable!()
+        let Ok(server) = Server::new(alloc, number, limits.window, limits.limit) else {
+            return Err(AllocError);
         };
-        match Server::new(alloc, number, limits.window, limits.limit) {
-            Ok(server) => Ok(Connection {
+        match Client::new(alloc, limits.first_id, limits.window, limits.limit) {
+            Ok(client) => Ok(Connection {
                 client: Some(client),
                 server,
                 calls: Vec::new(alloc),
                 up_cut: false,
                 down_cut: false,
             }),
-            Err(_) => Err(AllocError),
+            Err(_) => unreachable!(),
         }
     }
 

@@ -286,13 +286,13 @@ impl<H: Handler> World<H> {
                 })
             }
             CheckOut::Open(connection) => {
+                if make_room(&mut self.connections).is_err() {
+                    return Err(WorldRefusal::OutOfMemory);
+                }
                 let alloc = *self.connections.allocator();
                 let Ok(opened) = Connection::new(alloc, self.limits, connection) else {
                     return Err(WorldRefusal::OutOfMemory);
                 };
-                if make_room(&mut self.connections).is_err() {
-                    return Err(WorldRefusal::OutOfMemory);
-                }
                 self.connections.push_reserved(opened);
                 let _ = self.pool.check_out();
                 Ok(Report::Opened {
@@ -318,13 +318,13 @@ impl<H: Handler> World<H> {
         let Some(number) = self.pool.next_id() else {
             unreachable!()
         };
+        if make_room(&mut self.connections).is_err() {
+            return Err(WorldRefusal::OutOfMemory);
+        }
         let alloc = *self.connections.allocator();
         let Ok(connection) = Connection::new_raw(alloc, self.limits, number) else {
             return Err(WorldRefusal::OutOfMemory);
         };
-        if make_room(&mut self.connections).is_err() {
-            return Err(WorldRefusal::OutOfMemory);
-        }
         self.connections.push_reserved(connection);
         let _ = self.pool.draw();
         Ok(Report::RawOpened(number))
@@ -351,13 +351,13 @@ impl<H: Handler> World<H> {
             → RefusesCall self.old.state (events.Call number kind payload.entry) e) }
         ensures unchanged { OnErr result (self.new ≡ self.old) }
     {
+        if make_room(&mut self.calls).is_err() {
+            return Err(CallRefusal::OutOfMemory);
+        }
         let alloc = *self.calls.allocator();
         let Ok(record) = CallRecord::new(alloc, number, kind, payload) else {
             return Err(CallRefusal::OutOfMemory);
         };
-        if make_room(&mut self.calls).is_err() {
-            return Err(CallRefusal::OutOfMemory);
-        }
         let connection = &mut self.connections[at];
         let call = connection.call(kind, payload, self.calls.len())?;
         self.calls.push_reserved(record);
