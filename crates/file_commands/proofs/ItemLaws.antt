@@ -6,7 +6,8 @@ use Rattle.bson_elem.specs.Spelling.{IsBytes}
 use Rattle.bson_elem.proofs.Lemmas.{IsBytes-after}
 use Rattle.command_run.specs.{is_there, or_nothing}
 use Rattle.wire_msg.proofs.Lemmas.{IsBytes-front}
-use Rattle.file_commands.specs.Items.{AreItems, AreTextsOf, IsLastItem, ItemKind, ItemsText, are_there}
+use Rattle.framing.specs.{AreAll}
+use Rattle.file_commands.specs.Items.{AreTextsOf, IsLastItem, ItemKind, ItemsText, are_there}
 use Rattle.file_commands.proofs.ItemReadings.{IsKind}
 
 -- what else is known of a kind whose texts are told by the bytes
@@ -32,7 +33,7 @@ module _ (k : ItemKind) (is_kind : IsKind k) (is : IsTold k) where
       so (inr (line, bad)) = is.bad_not_text start item after line text (subst IsBytes sum fits) (subst (λ (x : List ℕ). k.is_bad start x line) sum bad) p t
 
   -- bytes are items and a rest in one way at most
-  one_split : (start : ℕ) (bytes a b : List ℕ) (ps qs : List (List ℕ)) (rest after : List ℕ) (last last' : Option (List ℕ)) → IsBytes bytes → AreItems k ps → AreItems k qs
+  one_split : (start : ℕ) (bytes a b : List ℕ) (ps qs : List (List ℕ)) (rest after : List ℕ) (last last' : Option (List ℕ)) → IsBytes bytes → AreAll k.is_item ps → AreAll k.is_item qs
       → AreTextsOf k start ps a → AreTextsOf k start qs b → bytes ≡ concat ps ++ rest → bytes ≡ concat qs ++ after
       → IsLastItem k (start + length (concat ps)) rest last → IsLastItem k (start + length (concat qs)) after last' → (ps ≡ qs) × (rest ≡ after)
   one_split start bytes a b [] [] rest after last last' fits p q s t x y e f = (refl, sym x ∙ y)
@@ -55,7 +56,7 @@ module _ (k : ItemKind) (is_kind : IsKind k) (is : IsTold k) where
       (ap (λ (z : List ℕ). z ∷ ps) first ∙ ap (λ (z : List (List ℕ)). q ∷ z) others.0, others.1)
 
   -- items have one text
-  one_of_items : (start : ℕ) (ps : List (List ℕ)) (a b : List ℕ) → IsBytes (concat ps) → AreItems k ps → AreTextsOf k start ps a → AreTextsOf k start ps b → a ≡ b
+  one_of_items : (start : ℕ) (ps : List (List ℕ)) (a b : List ℕ) → IsBytes (concat ps) → AreAll k.is_item ps → AreTextsOf k start ps a → AreTextsOf k start ps b → a ≡ b
   one_of_items start [] a b fits are x y = x ∙ sym y
   one_of_items start (p ∷ ps) a b fits are x y =
       let here : IsBytes p = IsBytes-front (p ++ concat ps) p (concat ps) fits refl in

@@ -14,7 +14,8 @@ use Rattle.file_commands.specs.declared.walk.Stop.{Stop}
 use Rattle.file_commands.specs.declared.walk.Stop.TheVariants as stop
 use Rattle.file_commands.specs.InputFault.{input_fault_line}
 use Rattle.file_commands.specs.ItemWalk.{EndAt, GoesOverItems, IsStoppedAt, ItemReading, ItemWalk, ItemsWritten, StandAt, item_tells}
-use Rattle.file_commands.specs.Items.{AreItems, AreTextsOf, FirstItems, HaveItems, IsLastItem, ItemKind, ItemsText, are_there}
+use Rattle.framing.specs.{AreAll}
+use Rattle.file_commands.specs.Items.{AreTextsOf, FirstItems, HaveItems, IsLastItem, ItemKind, ItemsText, are_there}
 use Rattle.file_commands.specs.Walk.{IsAtFault, IsBetween, Walks}
 
 -- what is known of a kind: bytes that more decide are at no fault, and begin with no item; and what follows bytes doesn't change their fault
@@ -68,7 +69,7 @@ not_zero n some = omega (arith, some)
 len-append : (ps qs : List (List ℕ)) → length (concat (ps ++ qs)) ≡ length (concat ps) + length (concat qs)
 len-append ps qs = ap length (concat-append ps qs) ∙ length-append (concat ps) (concat qs)
 
-items-append : (k : ItemKind) (ps qs : List (List ℕ)) → AreItems k ps → AreItems k qs → AreItems k (ps ++ qs)
+items-append : (k : ItemKind) (ps qs : List (List ℕ)) → AreAll k.is_item ps → AreAll k.is_item qs → AreAll k.is_item (ps ++ qs)
 items-append k [] qs a b = b
 items-append k (p ∷ ps) qs a b = (a.0, items-append k ps qs a.1 b)
 
@@ -258,7 +259,7 @@ module _ {R : Type 0} (walk : ItemWalk R) (is_kind : IsKind (walk.kind walk.limi
   item_some (x ∷ xs) is = omega arith
 
   -- whether there are items is told by where the reader stands
-  any_there : (ps : List (List ℕ)) → AreItems (walk.kind walk.limit) ps → nat_lt walk.base (walk.base + length (concat ps)) ≡ are_there ps
+  any_there : (ps : List (List ℕ)) → AreAll (walk.kind walk.limit).is_item ps → nat_lt walk.base (walk.base + length (concat ps)) ≡ are_there ps
   any_there [] are = le-ltb walk.base (walk.base + 0) (omega arith)
   any_there (p ∷ ps) are = lt-ltb walk.base (walk.base + length (concat (p ∷ ps))) (omega (arith, item_some p are.0, length-append p (concat ps)))
 

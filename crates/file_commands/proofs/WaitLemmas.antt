@@ -15,7 +15,8 @@ use Rattle.file_commands.specs.FrameWalk.{any_tells, any_walk}
 use Rattle.file_commands.specs.MessageWalk.{message_tells, message_walk}
 use Rattle.file_commands.specs.OrRecordsWalk.{Waits}
 use Rattle.file_commands.specs.ItemWalk.{ItemWalk, item_tells}
-use Rattle.file_commands.specs.Items.{AreItems, AreTextsOf}
+use Rattle.framing.specs.{AreAll}
+use Rattle.file_commands.specs.Items.{AreTextsOf}
 use Rattle.file_commands.proofs.DocumentReadings.{documents_kind}
 use Rattle.file_commands.proofs.FrameReadings.{frames_kind}
 use Rattle.file_commands.proofs.MessageReadings.{messages_kind}
@@ -24,7 +25,7 @@ use Rattle.file_commands.proofs.ItemReadings.{IsKind}
 -- ---- items of a kind of which the first bytes of the signature are open
 
 module _ {R : Type 0} (walk : ItemWalk R) (is_kind : IsKind (walk.kind walk.limit)) (few_open : (n : ℕ) → n < 8 → (walk.kind walk.limit).is_open (take n signature)) where
-  no_items : (bytes texts rest : List ℕ) (ps : List (List ℕ)) → (walk.kind walk.limit).is_open bytes → AreItems (walk.kind walk.limit) ps → bytes ≡ concat ps ++ rest → AreTextsOf (walk.kind walk.limit) walk.base ps texts
+  no_items : (bytes texts rest : List ℕ) (ps : List (List ℕ)) → (walk.kind walk.limit).is_open bytes → AreAll (walk.kind walk.limit).is_item ps → bytes ≡ concat ps ++ rest → AreTextsOf (walk.kind walk.limit) walk.base ps texts
       → (texts ≡ []) × (rest ≡ bytes)
   no_items bytes texts rest [] o are joined none = (none, sym joined)
   no_items bytes texts rest (p ∷ ps) o are joined some = absurd (is_kind.open_not_item p (concat ps ++ rest) (subst (walk.kind walk.limit).is_open (joined ∙ append_assoc p (concat ps) rest) o) are.0)

@@ -1,8 +1,9 @@
 -- What is written for an input of items of one kind, back to back: documents, messages, messages of
 -- any opCode, or records.
-use Rattle.std.specs.Prelude.{◌≡◌, ◌⊎◌, ℕ, ◌+◌, List, [], ◌∷◌, ◌++◌, length, Bool, true, false, ⊤}
+use Rattle.std.specs.Prelude.{◌≡◌, ◌⊎◌, ℕ, ◌+◌, List, [], ◌∷◌, ◌++◌, length, Bool, true, false}
 use Rattle.std.specs.Prelude.{Option, None, Some}
 use Rattle.std.specs.List.{concat}
+use Rattle.framing.specs.{AreAll}
 use Rattle.command_run.specs.{is_there, or_nothing}
 use Rattle.file_commands.specs.Output.{TextOf}
 
@@ -17,11 +18,6 @@ pub record ItemKind : Type 1 where
   pub is_bad : ℕ → List ℕ → List ℕ → Type 0
   pub is_text : ℕ → List ℕ → List ℕ → Type 0
 
--- each of the byte lists is an item
-abbrev pub AreItems : ItemKind → List (List ℕ) → Type 0
-AreItems k [] = ⊤
-AreItems k (p ∷ ps) = k.is_item p × AreItems k ps
-
 -- what may be written for items of which the first begins at this offset, joined
 abbrev pub AreTextsOf : ItemKind → ℕ → List (List ℕ) → List ℕ → Type 0
 AreTextsOf k start [] texts = texts ≡ []
@@ -33,7 +29,7 @@ AreTextsOf k start (p ∷ ps) texts =
 -- and a rest.
 pub record HaveItems (k : ItemKind) (start : ℕ) (bytes texts rest : List ℕ) : Type 0 where
   pub items : List (List ℕ)
-  pub items_are : AreItems k items
+  pub items_are : AreAll k.is_item items
   pub joined : bytes ≡ concat items ++ rest
   pub texts_are : AreTextsOf k start items texts
 
