@@ -9,6 +9,7 @@ use Rattle.file_commands.specs.Output.{nothing}
 use Rattle.file_commands.specs.Msg.{MsgText, messages_of}
 use Rattle.file_commands.proofs.MessageReadings.{messages_kind, whole_front}
 use Rattle.file_commands.proofs.ItemLaws.{IsTold, one_items_text}
+use Rattle.wire_msg.specs.declared.header.TheConstants.{MAX_MESSAGE_LEN}
 
 messages_told : (limit : ℕ) → IsTold (messages_of Text limit)
 messages_told limit = record {
@@ -20,4 +21,4 @@ messages_told limit = record {
 
 pub one_msg_text : (bytes text text' : List ℕ) (fault fault' : Bool) → IsBytes bytes
     → MsgText Text bytes text fault → MsgText Text bytes text' fault' → (text ≡ text') × (fault ≡ fault')
-one_msg_text = one_items_text (messages_of Text 48000000) (messages_kind Text 48000000) (messages_told 48000000) 0 nothing
+one_msg_text = one_items_text (messages_of Text MAX_MESSAGE_LEN) (messages_kind Text MAX_MESSAGE_LEN) (messages_told MAX_MESSAGE_LEN) 0 nothing

@@ -21,6 +21,7 @@ use Rattle.file_commands.proofs.DocumentReadings.{documents_kind}
 use Rattle.file_commands.proofs.FrameReadings.{frames_kind}
 use Rattle.file_commands.proofs.MessageReadings.{messages_kind}
 use Rattle.file_commands.proofs.ItemReadings.{IsKind}
+use Rattle.wire_msg.specs.declared.header.TheConstants.{MAX_MESSAGE_LEN}
 
 -- ---- items of a kind of which the first bytes of the signature are open
 
@@ -43,17 +44,17 @@ module _ {R : Type 0} (walk : ItemWalk R) (is_kind : IsKind (walk.kind walk.limi
 few_long : (n : ℕ) → n < 8 → length (take n signature) < 8
 few_long n few = omega (arith, few, length-take n signature)
 
-open_frame : (bytes : List ℕ) → length bytes < 8 → IsOpenFrame 48000000 bytes
+open_frame : (bytes : List ℕ) → length bytes < 8 → IsOpenFrame MAX_MESSAGE_LEN bytes
 open_frame bytes few = (16 - length bytes, of_header (omega (arith, few)) (omega (arith, few)))
 
 pub frames_wait : Waits any_tells
-frames_wait = items_wait any_walk (frames_kind 48000000) (λ n few. open_frame (take n signature) (few_long n few))
+frames_wait = items_wait any_walk (frames_kind MAX_MESSAGE_LEN) (λ n few. open_frame (take n signature) (few_long n few))
 
-open_message : (bytes : List ℕ) → length bytes < 8 → IsOpen 48000000 bytes
+open_message : (bytes : List ℕ) → length bytes < 8 → IsOpen MAX_MESSAGE_LEN bytes
 open_message bytes few = in_header (omega (arith, few))
 
 pub messages_wait : (form : MessageForm) → Waits (message_tells form)
-messages_wait form = items_wait (message_walk form) (messages_kind form 48000000) (λ n few. open_message (take n signature) (few_long n few))
+messages_wait form = items_wait (message_walk form) (messages_kind form MAX_MESSAGE_LEN) (λ n few. open_message (take n signature) (few_long n few))
 
 -- a document that begins as the signature would have 1,212,634,444 bytes
 signature_open : stream.IsOpen signature

@@ -6,6 +6,7 @@ use Rattle.wire_text.specs.{IsFrameText, msg_fault_line}
 use Rattle.file_commands.specs.InputFault.{ended_inside_line}
 use Rattle.file_commands.specs.Output.{TextOf, nothing}
 use Rattle.file_commands.specs.Items.{AllItems, FirstItems, ItemKind, ItemsText}
+use Rattle.wire_msg.specs.declared.header.TheConstants.{MAX_MESSAGE_LEN}
 
 -- more bytes decide whether these begin with a frame
 abbrev pub IsOpenFrame : ℕ → List ℕ → Type 0
@@ -24,12 +25,12 @@ frames_of limit = record {
 -- What `msg --any` writes for bytes, and whether it ends with a fault line. The limit is 48,000,000
 -- bytes.
 abbrev pub AnyText : TextOf
-AnyText = ItemsText (frames_of 48000000) 0 nothing
+AnyText = ItemsText (frames_of MAX_MESSAGE_LEN) 0 nothing
 
 -- the texts of the first few frames in some bytes
 abbrev pub FirstFrames : List ℕ → List ℕ → Type 0
-FirstFrames = FirstItems (frames_of 48000000) 0
+FirstFrames = FirstItems (frames_of MAX_MESSAGE_LEN) 0
 
 -- the texts of all frames in some bytes, up to a length at fault
 abbrev pub AllFrames : List ℕ → List ℕ → Type 0
-AllFrames = AllItems (frames_of 48000000) 0
+AllFrames = AllItems (frames_of MAX_MESSAGE_LEN) 0

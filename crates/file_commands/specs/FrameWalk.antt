@@ -4,6 +4,7 @@ use Rattle.file_commands.specs.Any.{frames_of}
 use Rattle.file_commands.specs.Output.{nothing}
 use Rattle.file_commands.specs.ItemWalk.{ItemReading, ItemWalk, item_tells}
 use Rattle.file_commands.specs.Walk.{Tells}
+use Rattle.wire_msg.specs.declared.header.TheConstants.{MAX_MESSAGE_LEN}
 
 -- where a reader of frames stands
 abbrev pub any_reading : AnyReader → ItemReading
@@ -14,7 +15,7 @@ abbrev pub any_walk : ItemWalk AnyReader
 any_walk = record {
   reading = any_reading;
   kind = frames_of;
-  limit = 48000000;
+  limit = MAX_MESSAGE_LEN;
   base = 0;
   closing = nothing;
 }

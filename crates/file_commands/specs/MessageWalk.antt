@@ -5,6 +5,7 @@ use Rattle.file_commands.specs.Msg.{messages_of}
 use Rattle.file_commands.specs.Output.{nothing}
 use Rattle.file_commands.specs.ItemWalk.{ItemReading, ItemWalk, item_tells}
 use Rattle.file_commands.specs.Walk.{Tells}
+use Rattle.wire_msg.specs.declared.header.TheConstants.{MAX_MESSAGE_LEN}
 
 -- where a reader of messages stands
 abbrev pub message_reading : MessageReader → ItemReading
@@ -15,7 +16,7 @@ abbrev pub message_walk : MessageForm → ItemWalk MessageReader
 message_walk form = record {
   reading = message_reading;
   kind = messages_of form;
-  limit = 48000000;
+  limit = MAX_MESSAGE_LEN;
   base = 0;
   closing = nothing;
 }

@@ -8,6 +8,7 @@ use Rattle.file_commands.specs.declared.msg.MessageForm.TheVariants.{Text, Json}
 use Rattle.file_commands.specs.InputFault.{ended_inside_line}
 use Rattle.file_commands.specs.Output.{TextOf, nothing}
 use Rattle.file_commands.specs.Items.{AllItems, FirstItems, ItemKind, ItemsText}
+use Rattle.wire_msg.specs.declared.header.TheConstants.{MAX_MESSAGE_LEN}
 
 -- what may be written for a message: its text; or a line with one JSON object, of which there are
 -- several where the message holds doubles
@@ -31,12 +32,12 @@ messages_of form limit = record {
 -- What `msg` writes for bytes, and whether it ends with a fault line. The message limit is
 -- 48,000,000 bytes.
 abbrev pub MsgText : MessageForm → TextOf
-MsgText form = ItemsText (messages_of form 48000000) 0 nothing
+MsgText form = ItemsText (messages_of form MAX_MESSAGE_LEN) 0 nothing
 
 -- the texts of the first few messages in some bytes
 abbrev pub FirstMessages : MessageForm → List ℕ → List ℕ → Type 0
-FirstMessages form = FirstItems (messages_of form 48000000) 0
+FirstMessages form = FirstItems (messages_of form MAX_MESSAGE_LEN) 0
 
 -- the texts of all messages in some bytes, up to the first fault
 abbrev pub AllMessages : MessageForm → List ℕ → List ℕ → Type 0
-AllMessages form = AllItems (messages_of form 48000000) 0
+AllMessages form = AllItems (messages_of form MAX_MESSAGE_LEN) 0

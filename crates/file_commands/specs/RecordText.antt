@@ -20,6 +20,7 @@ use Rattle.file_commands.specs.declared.json.Layout.TheVariants.{Lines, Array}
 use Rattle.file_commands.specs.declared.record_text.RecordForm.{RecordForm}
 use Rattle.file_commands.specs.declared.record_text.RecordForm.TheVariants.{Text, Json}
 use Rattle.file_commands.specs.Json.{behind_values, end_of_value}
+use Rattle.wire_msg.specs.declared.header.TheConstants.{MAX_MESSAGE_LEN}
 
 -- to the server, and from it
 abbrev pub direction_sign : Direction → List ℕ
@@ -68,7 +69,7 @@ faulty_json h offset c =
 abbrev pub IsMsgJson : Mode → ℕ → List ℕ → List ℕ → Type 0
 IsMsgJson mode start bytes text =
     ((m : Message) × SpellsMsg m bytes × IsMessageJson mode m text)
-    ⊎ ((f : MsgFault) × FaultMsg bytes 48000000 f
+    ⊎ ((f : MsgFault) × FaultMsg bytes MAX_MESSAGE_LEN f
     × (text ≡ faulty_json (header_of bytes) (start + f.at) f.cause))
 
 -- a message of this kind: of another kind than OP_MSG the object of its header

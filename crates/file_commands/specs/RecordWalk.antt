@@ -5,6 +5,7 @@ use Rattle.file_commands.specs.ItemWalk.{ItemReading, ItemWalk, item_tells}
 use Rattle.file_commands.specs.RecordText.{record_closing}
 use Rattle.file_commands.specs.Records.{records_of}
 use Rattle.file_commands.specs.Walk.{Tells}
+use Rattle.wire_msg.specs.declared.header.TheConstants.{MAX_MESSAGE_LEN}
 
 -- where a reader of records stands
 abbrev pub file_reading : FileReader → ItemReading
@@ -15,7 +16,7 @@ abbrev pub record_walk : RecordForm → ItemWalk FileReader
 record_walk form = record {
   reading = file_reading;
   kind = records_of form;
-  limit = 48000000;
+  limit = MAX_MESSAGE_LEN;
   base = 8;
   closing = record_closing form;
 }

@@ -7,6 +7,7 @@ use Rattle.file_commands.specs.InputFault.{ended_inside_line, record_line}
 use Rattle.file_commands.specs.Output.{TextOf}
 use Rattle.file_commands.specs.Items.{AllItems, FirstItems, ItemKind, ItemsText}
 use Rattle.file_commands.specs.RecordText.{IsRecordText, record_closing}
+use Rattle.wire_msg.specs.declared.header.TheConstants.{MAX_MESSAGE_LEN}
 
 -- more bytes decide whether these begin with a record
 abbrev pub IsOpenRecord : ℕ → List ℕ → Type 0
@@ -27,12 +28,12 @@ records_of form limit = record {
 -- What is written for the bytes behind the eight of the signature, and whether it ends with a fault
 -- line. A message has at most 48,000,000 bytes.
 abbrev pub RecordsText : RecordForm → TextOf
-RecordsText form = ItemsText (records_of form 48000000) 8 (record_closing form)
+RecordsText form = ItemsText (records_of form MAX_MESSAGE_LEN) 8 (record_closing form)
 
 -- the texts of the first few records in some bytes behind the signature
 abbrev pub FirstRecords : RecordForm → List ℕ → List ℕ → Type 0
-FirstRecords form = FirstItems (records_of form 48000000) 8
+FirstRecords form = FirstItems (records_of form MAX_MESSAGE_LEN) 8
 
 -- the texts of all of them, up to the first fault
 abbrev pub AllRecords : RecordForm → List ℕ → List ℕ → Type 0
-AllRecords form = AllItems (records_of form 48000000) 8
+AllRecords form = AllItems (records_of form MAX_MESSAGE_LEN) 8

@@ -6,6 +6,7 @@ use Rattle.wire_text.specs.{IsMessageJson}
 use Rattle.file_commands.specs.RecordText.{IsMsgJson, faulty_json}
 use Rattle.file_commands.proofs.RecordTexts.{wrote_as}
 use Rattle.file_commands.proofs.record_text.write_op_msg_json.Goals as goal
+use Rattle.wire_msg.specs.declared.header.TheConstants.{MAX_MESSAGE_LEN}
 
 pub returns-in-Ok : goal.returns-in-Ok
 returns-in-Ok g c =
@@ -21,6 +22,6 @@ returns-in-Err g c =
     let f = c.in-Err.fault in
     let bytes = frame_bytes c.args.frame in
     let at = c.args.start + f.at in
-    let fault = subst (λ (b : List ℕ). FaultMsg b 48000000 f) c.as_bytes.ensures c.in-Err.ensures.fault in
+    let fault = subst (λ (b : List ℕ). FaultMsg b MAX_MESSAGE_LEN f) c.as_bytes.ensures c.in-Err.ensures.fault in
     exact_one c.write_faulty_json.result _ _ (faulty_json c.header.result at f.cause) (IsMsgJson c.args.mode c.args.start bytes)
     (inr (f, fault, ap (λ h. faulty_json h at f.cause) c.header.ensures)) c.write_faulty_json.ensures
