@@ -113,7 +113,7 @@ module _ (limit : ℕ) (taken : List ℕ) (messages : List Message) (rest : List
   took_whole bytes m s le = record {
     joined = t.joined ++ (rest ++ bytes);
     spelled = spelled-append limit messages (m ∷ []) t.joined (rest ++ bytes) t.spelled
-        (rest ++ bytes, [], s, le, refl, sym (append-nil (rest ++ bytes)));
+        (rest ++ bytes, [], (s, le), refl, sym (append-nil (rest ++ bytes)));
     parts = ap (λ z. z ++ bytes) t.parts ∙ append_assoc t.joined rest bytes
         ∙ sym (append-nil (t.joined ++ (rest ++ bytes)));
     stands = inl (in_header (omega arith));
