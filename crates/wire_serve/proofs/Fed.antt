@@ -24,7 +24,7 @@ use Rattle.wire_msg.specs.declared.header.TheConstants.{MAX_MESSAGE_LEN}
 whole_taken : (s : ServerView) (msg : List ℕ) (m : Message) → s.held ≡ [] → s.waiting ≡ [] → SpellsMsg m msg → length msg ≤ s.limit
     → TakesBytes s msg (length msg) (with_request s msg)
 whole_taken s msg m none waits spelled le =
-    let w = whole_read s.limit msg [] m (record { conn = msg; parts = sym (append-nil msg); spelled = spelled; within = le }) in record {
+    let w = whole_read s.limit msg [] m (record { front = msg; parts = sym (append-nil msg); spelled = spelled; within = le }) in record {
       bytes = msg;
       found = Ready;
       fed = record {

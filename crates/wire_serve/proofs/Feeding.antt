@@ -14,7 +14,7 @@ use Rattle.wire_serve.specs.Passing.{TakesNext, with_request}
 use Rattle.wire_msg.specs.declared.header.TheConstants.{MAX_MESSAGE_LEN}
 
 alone : (m : Message) (bytes : List ℕ) → SpellsMsg m bytes → length bytes ≤ MAX_MESSAGE_LEN → IsWhole MAX_MESSAGE_LEN bytes m []
-alone m bytes s le = record { conn = bytes; parts = sym (append-nil bytes); spelled = s; within = le }
+alone m bytes s le = record { front = bytes; parts = sym (append-nil bytes); spelled = s; within = le }
 
 -- one request may wait
 pub room : (s : ServerView) → TakesNext s → length s.waiting < s.window
@@ -78,7 +78,7 @@ takes_by : (found : ReaderState) (limit : ℕ) (held piece bytes : List ℕ) (n 
 takes_by Need limit held piece bytes n stands is opens all some = omega (arith, all refl, some)
 takes_by Ready limit held piece bytes zero (le, (m, spelled)) is opens all some =
     absurd (open_not_whole limit bytes [] m (subst (IsOpen limit) (sym (is ∙ append-nil held)) opens)
-    (record { conn = bytes; parts = sym (append-nil bytes); spelled = spelled; within = le }))
+    (record { front = bytes; parts = sym (append-nil bytes); spelled = spelled; within = le }))
 takes_by Ready limit held piece bytes (suc n) stands is opens all some = omega arith
 takes_by (Bad f) limit held piece bytes zero stands is opens all some =
     absurd (open_not_bad limit bytes f (subst (IsOpen limit) (sym (is ∙ append-nil held)) opens) stands)
