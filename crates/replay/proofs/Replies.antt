@@ -1,6 +1,6 @@
 -- Documents back to back that are compared one by one, and then what is behind them.
 use Rattle.std.proofs.Common.{◌≡◌, ◌⊎◌, ◌∙◌, inl, inr, ℕ, pos, arith, length, append_assoc, Bool, Bor, List, [], ◌∷◌, ◌++◌, refl, ap, sym, subst, false}
-use Rattle.std.specs.Prelude.{◌↔◌, IsTrue, Ok, Result}
+use Rattle.std.specs.Prelude.{◌↔◌, IsTrue, Ok, Err, OnOk, Result}
 use Rattle.std.specs.Result.{IsErrOf}
 use Rattle.std.specs.Int.{w32, cast_signed, from_le_bytes}
 use Rattle.std.specs.Str.{bytes_eq}
@@ -110,3 +110,8 @@ pub read_as_reply : (bytes : List ℕ) (k : Content) → IsReplyOf bytes k → (
 read_as_reply bytes (contents.Message m) is isnt = is
 read_as_reply bytes (contents.Reply documents) is isnt = isnt documents refl
 read_as_reply bytes (contents.Other rest) is isnt = is
+
+-- what holds anyway holds on Ok
+pub counted : {A E : Type 0} {Holds : Type 0} (result : Result A E) → Holds → OnOk result Holds
+counted (Ok value) holds = holds
+counted (Err e) holds = tt

@@ -135,9 +135,33 @@ impl<'a, W: Write + Drop> Teller<'a, W> {
         ensures names { self.new.names ≡ self.old.names }
     {
         if are_same_answers(self.alloc, self.names, recorded, received)? {
-            self.tally.same = self.tally.same.saturating_add(1);
+            self.count_same();
             return Ok(());
         }
+        self.tell_different(number, request, recorded, received)
+    }
+
+    /// Counts an answer that is as it was recorded.
+    fn count_same(&mut self)
+        ensures counted { self.new.tally
+            ≡ record self.old.tally { same = one_more self.old.tally.same } }
+        ensures names { self.new.names ≡ self.old.names }
+    {
+        self.tally.same = self.tally.same.saturating_add(1);
+    }
+
+    /// Tells that the answer that came differs from the recorded one.
+    fn tell_different(
+        &mut self,
+        number: u64,
+        request: i32,
+        recorded: &[u8],
+        received: &[u8],
+    ) -> io::Result<()>
+        ensures counted { self.new.tally
+            ≡ record self.old.tally { different = one_more self.old.tally.different } }
+        ensures names { self.new.names ≡ self.old.names }
+    {
         self.tally.different = self.tally.different.saturating_add(1);
         self.write_head(number, "differs", request)?;
         self.write_line(RECORDED, recorded)?;
