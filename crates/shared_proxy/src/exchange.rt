@@ -54,7 +54,7 @@ pub fn pass_on(
     server: &mut Server,
     routes: &mut Routes,
 ) -> Result<Option<Leave>, AllocError>
-    requires { MayServe server.old.used client.old.downstream.front.server.connection }
+    requires { MayServe server.old.used client.old.downstream.conn.server.connection }
     ensures { server.new.used ≡ used_up server.old.used }
 {
     let begun = begun(&client.downstream);

@@ -32,7 +32,7 @@ pub enum Leave {
 }
 
 impl Leave {
-    /// Returns why the connection of a client is over whose front isn't open, and `None` if it is.
+    /// Returns why the connection of a client is over whose state is this, and `None` if it is open.
     pub fn of_state(state: ConnState) -> Option<Leave> {
         match state {
             ConnState::Open => None,

@@ -133,7 +133,7 @@ impl Server {
 
     /// Passes on the request that waits at a downstream, as `Downstream::pass_on` does.
     pub fn pass_on(&mut self, downstream: &mut Downstream) -> Result<(), PassRefusal>
-        requires { MayServe self.old.used downstream.old.front.server.connection }
+        requires { MayServe self.old.used downstream.old.conn.server.connection }
         ensures kept { self.new
             ≡ record self.old { upstream = self.new.upstream; used = used_up self.old.used } }
         ensures passed { PassStep result downstream.old self.old.upstream
