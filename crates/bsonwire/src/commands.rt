@@ -7,7 +7,7 @@ ghost use Rattle.bsonwire.specs.ExitStatus.{IsStatusFor, exit_status, tells_done
 ghost use Rattle.bsonwire.specs.Texts.{AllOf, CommandText, FirstOf, reads_first};
 ghost use Rattle.command_run.specs.{AppendsText, end_of_error, is_done, is_fault};
 ghost use Rattle.file_commands.specs.{AppendsOne, WritesRead};
-ghost use Rattle.loopback.specs.{AppendsUpTo, loop_text};
+ghost use Rattle.wire_play.specs.{AppendsUpTo, loop_text};
 
 use crate::choice::{Choice, Command, Reading};
 use crate::progress::Progress;
@@ -17,7 +17,6 @@ use file_commands::{
     TextStop, run_any, run_bson, run_canon, run_check, run_dump, run_json, run_msg, salvage_canon,
     salvage_check,
 };
-use loopback::run_loop;
 use std::alloc::Global;
 use std::fs::OpenFile;
 use std::io::{ErrorKind, Read, Write};
@@ -25,7 +24,7 @@ use std::net::Net;
 use std::rt::Files;
 use std::time::Clock;
 use std::{fs, io};
-use wire_play::run_play;
+use wire_play::{run_loop, run_play};
 
 /// Returns the exit status of an end: 0 if all was good, 1 for a fault in the input, 3 if reading
 /// or writing failed, and 4 if memory ran out.

@@ -9,8 +9,8 @@
 //! The exit status is 0 if the input is good; 1 if it is at fault; 2 if the command line is at fault;
 //! 3 if reading, writing or the network failed; and 4 if memory ran out.
 //!
-//! Uses file_commands, loopback, wire_play, command_run and command_words. Read first: `commands`,
-//! and then `choice`.
+//! Uses file_commands, wire_play, command_run and command_words. Read first: `commands`, and then
+//! `choice`.
 #![tactic(auto)]
 
 mod choice;

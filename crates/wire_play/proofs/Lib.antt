@@ -10,3 +10,5 @@ pub mod Steps
 pub mod Listings
 pub mod Plays
 pub mod ScriptLaws
+pub mod Rounds
+pub mod LoopLemmas

@@ -1,5 +1,5 @@
-//! Plays scripts of events: writes a line for each event, and at the end the calls and the log of
-//! the world.
+//! The commands `play` and `loop`: a script of events is played in a world of connections, or calls
+//! are made over one connection of the program with itself.
 //!
 //! `parse_line` reads a line: it names the limits and the handler of a world, or an event in it.
 //! `play` reads a script line by line. The first line makes a world, and each of the others names
@@ -7,8 +7,13 @@
 //! the text, and its number is returned. `run_play` does that from a reader to a writer, and tells
 //! such a line by a last one.
 //!
-//! Uses script_lines, wire_world and command_run. Used by bsonwire. Read first: docs/SCRIPTS.md,
-//! `parse`, `specs/Scripts.antt`, and then `playing`.
+//! `run_loop` connects the program to itself over TCP. Each call is made at a client's end, answered
+//! at a server's end, and taken back, and then its line is written. The specs say what was done at
+//! both ends, and that the headline holds of these calls where bytes arrived in order.
+//!
+//! Uses script_lines, wire_world, wire_end and command_run. Used by bsonwire. Read first:
+//! docs/SCRIPTS.md, `parse`, `specs/Scripts.antt`, and then `playing`; of the other command
+//! `loop_call`, and then `specs/Loopback.antt`.
 #![tactic(auto)]
 
 mod body;
@@ -16,6 +21,8 @@ mod closing;
 mod cut;
 mod keyword;
 pub mod laws;
+mod loop_call;
+mod loopback;
 mod named;
 mod operands;
 mod parse;
@@ -23,6 +30,7 @@ mod playing;
 mod reports;
 mod running;
 
+pub use loopback::run_loop;
 pub use named::{HandlerName, Line, ScriptEvent, Setup};
 pub use parse::parse_line;
 pub use playing::{PlayStop, play};

@@ -1,5 +1,0 @@
-use Rattle.loopback.specs.Loopback.{AppendsUpTo}
-use Rattle.loopback.proofs.loopback.write_line.Given as goal
-
-abbrev pub invariant-loop : goal.invariant-loop
-invariant-loop g l = AppendsUpTo l.rest l.line (g.W.Write.contents l.fn.out) (g.W.Write.contents l.out)
