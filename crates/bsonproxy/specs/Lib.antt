@@ -1,3 +1,4 @@
 pub mod ExitStatus
+pub mod Serving
 pub mod CommandLine
 pub mod Choices

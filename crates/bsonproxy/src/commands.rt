@@ -3,6 +3,8 @@ ghost use Rattle.std.specs.Prelude.{◌≡◌, ◌⊎◌};
 ghost use Rattle.bsonproxy.specs.ExitStatus.{IsStatusFor, IsStatusOfReplay, IsStatusOfServe};
 
 use crate::choice::Choice;
+use crate::fault::ServeFault;
+use crate::script::read_script;
 use command_words::{Because, InputName, Noted, USAGE, status_of_error};
 use proxy::{Options, ProxyFault};
 use replay::{Outcome, ReplayFault, ReplayOptions};
@@ -26,30 +28,38 @@ pub fn run<R: Files + Input + Net + Clock + Print + Eprint + AllocGlobal>(
     }
 }
 
-/// Passes connections to a server and back, or the requests of all clients over a few of them.
+/// Passes connections to a server and back, or the requests of all clients over a few of them, by
+/// the rules of the script.
 fn run_proxy<R: Files + Input + Net + Clock + AllocGlobal, W: Write>(
     rt: &R,
     options: Options<'_>,
     out: &mut W,
-) -> Result<(), ProxyFault> {
-    match options.share {
-        Some(most) => shared_proxy::run(rt, rt.alloc(), options, most as usize, out),
-        None => proxy::run(rt, rt.alloc(), options, out),
+) -> Result<(), ServeFault> {
+    let script = read_script(rt, rt.alloc(), options.script)?;
+    let ended = match options.share {
+        Some(most) => shared_proxy::run(rt, rt.alloc(), options, script, most as usize, out),
+        None => proxy::run(rt, rt.alloc(), options, script, out),
+    };
+    match ended {
+        Ok(()) => Ok(()),
+        Err(fault) => Err(ServeFault::Proxy(fault)),
     }
 }
 
 /// Returns the exit status of a proxy that stopped early.
-fn fault_status(fault: &ProxyFault) -> u8
+fn fault_status(fault: &ServeFault) -> u8
     ensures { (result ≡ 2) ⊎ (result ≡ 3) ⊎ (result ≡ 4) }
 {
     match fault {
-        ProxyFault::Script(_) | ProxyFault::Itself => USAGE,
-        ProxyFault::ScriptFile(error)
-        | ProxyFault::Listen(error)
-        | ProxyFault::Upstream(error)
-        | ProxyFault::PortFile(error)
-        | ProxyFault::RecordFile(error)
-        | ProxyFault::Io(error) => status_of_error(error),
+        ServeFault::Script(_) | ServeFault::Proxy(ProxyFault::Itself) => USAGE,
+        ServeFault::ScriptFile(error)
+        | ServeFault::Proxy(
+            ProxyFault::Listen(error)
+            | ProxyFault::Upstream(error)
+            | ProxyFault::PortFile(error)
+            | ProxyFault::RecordFile(error)
+            | ProxyFault::Io(error),
+        ) => status_of_error(error),
     }
 }
 
@@ -72,7 +82,7 @@ fn serve_status<R: Files + Input + Net + Clock + Print + Eprint + AllocGlobal>(
 /// fault.
 fn tell_proxy(
     rt: &impl Eprint,
-    fault: &ProxyFault,
+    fault: &ServeFault,
     options: Options<'_>,
     unwritten: Because,
 ) -> io::Result<()> {
@@ -88,11 +98,10 @@ fn tell_proxy(
         ..
     } = options;
     let file = match fault {
-        ProxyFault::Script(_) | ProxyFault::ScriptFile(_) => script,
-        ProxyFault::PortFile(_) => port_file,
-        ProxyFault::RecordFile(_) => record,
-        ProxyFault::Listen(_) | ProxyFault::Upstream(_) | ProxyFault::Itself | ProxyFault::Io(_) =>
-            { None }
+        ServeFault::Script(_) | ServeFault::ScriptFile(_) => script,
+        ServeFault::Proxy(ProxyFault::PortFile(_)) => port_file,
+        ServeFault::Proxy(ProxyFault::RecordFile(_)) => record,
+        ServeFault::Proxy(_) => None,
     };
     match file {
         Some(file) => eprintln!(rt; "bsonproxy: {file:?}: {fault}"),

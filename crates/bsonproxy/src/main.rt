@@ -11,12 +11,15 @@
 //! script is at fault, or the proxy is its own server; 3 if reading, writing or the network failed;
 //! and 4 if memory ran out.
 //!
-//! Uses proxy, shared_proxy, replay and command_words. Read first: `commands`, and then `choice`.
+//! Uses proxy, shared_proxy, test_script, replay and command_words. Read first: `commands`, and then
+//! `choice`.
 #![tactic(auto)]
 
 mod choice;
 mod command_line;
 mod commands;
+mod fault;
+mod script;
 
 ghost use Rattle.std.specs.Prelude.{map};
 ghost use Rattle.bsonproxy.specs.ExitStatus.{IsStatusOf};

@@ -2,7 +2,7 @@
 use Rattle.std.proofs.Common.{◌≡◌, ◌≤◌, ◌<◌, ◌+◌, ◌-◌, ℕ, true, List, [], Option, Some, None, Result, Ok, Err, refl, sym, subst, append-nil, inl, inr, arith}
 use Rattle.std.specs.Prelude.{OnOk, min}
 use Rattle.std.specs.Io.KnownBytes.{Appends, Keeps}
-use Rattle.test_script.specs.{RuleView}
+use Rattle.script_rules.specs.{RuleView}
 use Rattle.bsonserver.specs.Runs.{AreRead, Connected, EndsSo, GoesOnServing, IsEnough, IsRefused, IsRun, ShowsServing, script_file}
 use Rattle.bsonserver.specs.declared.choice.Choice.{Choice}
 use Rattle.bsonserver.specs.declared.stop.ServingEnd.{ServingEnd}

@@ -12,8 +12,8 @@ use Rattle.wire_serve.specs.declared.gated_link.Gate.{Gate}
 use Rattle.wire_serve.specs.declared.gated_link.Gate.TheVariants as gates
 use Rattle.wire_peer.specs.{Does, Stops, log_of}
 use Rattle.wire_peer.specs.declared.log.Logged.{Logged}
-use Rattle.test_script.specs.{RuleView}
-use Rattle.test_script.specs.declared.action.Flow.{Flow}
+use Rattle.script_rules.specs.{RuleView}
+use Rattle.script_rules.specs.declared.action.Flow.{Flow}
 use Rattle.bsonserver.specs.Replies.{last_flow, rules_after}
 use Rattle.bsonserver.specs.Serving.{EndsTurn, IsForgotten, IsSteered, IsStepped, Serves, ServesOn, TakesTurn, counted_after, ended_after, gate_after, opened, reply_flow, took}
 use Rattle.bsonserver.specs.Transcript.{end_text, new_text, told_text}

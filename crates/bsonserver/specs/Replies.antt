@@ -1,8 +1,8 @@
 -- What a script says of the requests of a log, and what becomes of their replies.
 use Rattle.std.specs.Prelude.{◌≡◌, List, [], ◌∷◌, Option, None, Some}
-use Rattle.test_script.specs.declared.action.Flow.{Flow}
-use Rattle.test_script.specs.declared.action.Flow.TheVariants as flows
-use Rattle.test_script.specs.{RuleView, after, flow_by, met}
+use Rattle.script_rules.specs.declared.action.Flow.{Flow}
+use Rattle.script_rules.specs.declared.action.Flow.TheVariants as flows
+use Rattle.script_rules.specs.{RuleView, after, flow_by, met}
 use Rattle.wire_serve.specs.declared.gated_link.Gate.{Gate}
 use Rattle.wire_serve.specs.declared.gated_link.Gate.TheVariants as gates
 use Rattle.wire_peer.specs.{LogEntry}

@@ -7,11 +7,10 @@ use Rattle.std.specs.declared.net.socket_addr.SocketAddr.{SocketAddr}
 use Rattle.clap.specs.Words.{Text}
 use Rattle.mio.specs.declared.net.stream.TcpStream.{TcpStream}
 use Rattle.sockets.specs.{listening_line}
+use Rattle.test_script.specs.{IsMisread, IsScript}
 use Rattle.test_store.specs.{Answered, StopsAt, empty_store, store_of}
-use Rattle.test_script.specs.{FailsAt, IsAnswered, IsScript, IsStopped, RuleView}
-use Rattle.test_script.specs.declared.fault.Cause.TheVariants as causes
-use Rattle.test_script.specs.declared.fault.ScriptFault.{ScriptFault}
-use Rattle.test_script.specs.declared.scripted.Scripted.{Scripted}
+use Rattle.script_rules.specs.{IsAnswered, IsStopped, RuleView}
+use Rattle.script_rules.specs.declared.scripted.Scripted.{Scripted}
 use Rattle.test_store.specs.declared.store.Store.{Store}
 use Rattle.wire_serve.specs.{Tells, tells}
 use Rattle.wire_serve.specs.declared.gated_link.GatedLink.{GatedLink}
@@ -123,12 +122,6 @@ IsRun choice rules replies (runs.Stopped why) before after = Unit {0}
 abbrev pub AreRead : (file : Option Text) → (rules replies : List RuleView) → Type 0
 AreRead None rules replies = (rules ≡ []) × (replies ≡ [])
 AreRead (Some file) rules replies = (text : List ℕ) × IsScript text rules × IsScript text replies
-
--- a file of a script is named, and a text fails so, but not for want of memory
-abbrev pub IsMisread : (file : Option Text) → ScriptFault → Type 0
-IsMisread None fault = ⊥
-IsMisread (Some file) fault =
-    ((text : List ℕ) × FailsAt text fault) × (fault.cause ≢ causes.OutOfMemory)
 
 -- reading the script ends a run so: a file that is named can't be read or is at fault, or memory
 -- ran out

@@ -3,8 +3,8 @@ use Rattle.std.specs.Prelude.{◌≡◌, ℕ, suc, ◌+◌, min, List, [], ◌�
 use Rattle.std.specs.Prelude.{Some, Result, Ok, Err, true}
 use Rattle.std.specs.Io.KnownBytes.{Appends}
 use Rattle.slab.specs.Slab.{Slab, Updates, get}
-use Rattle.test_script.specs.declared.action.Flow.{Flow}
-use Rattle.test_script.specs.{RuleView}
+use Rattle.script_rules.specs.declared.action.Flow.{Flow}
+use Rattle.script_rules.specs.{RuleView}
 use Rattle.wire_serve.specs.declared.cause.CloseCause.TheVariants as close_causes
 use Rattle.wire_serve.specs.{IsGated, IsTurned, SlotSeen, Tells, new_slot}
 use Rattle.wire_serve.specs.declared.turned.Leave.{Leave}

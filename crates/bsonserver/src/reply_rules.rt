@@ -2,11 +2,11 @@
 
 ghost use Rattle.std.specs.Prelude.{◌≡◌, ◌↔◌, [], IsTrue, None, OnOk, Some};
 ghost use Rattle.wire_peer.specs.{entry_of, log_of};
-ghost use Rattle.test_script.specs.{after, flow_by, met};
+ghost use Rattle.script_rules.specs.{after, flow_by, met};
 ghost use Rattle.bsonserver.specs.Replies.{Follows, gate_for};
 
+use script_rules::{Flow, Script};
 use std::alloc::{AllocError, Global};
-use test_script::{Flow, Script};
 use wire_peer::Entry;
 use wire_serve::Gate;
 

@@ -6,7 +6,7 @@ ghost use Rattle.text_writer.specs.{WritesOut};
 ghost use Rattle.bsonserver.specs.Runs.{EndsSo, GoesOnServing, HasBegun, HasServed, IsEnough};
 ghost use Rattle.bsonserver.specs.Runs.{IsRun, ShowsServing, served_line};
 ghost use Rattle.sockets.specs.{listening_line};
-ghost use Rattle.test_script.specs.{RuleView};
+ghost use Rattle.script_rules.specs.{RuleView};
 
 use crate::choice::Choice;
 use crate::connections::{Connected, begin};

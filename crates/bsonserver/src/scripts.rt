@@ -5,10 +5,11 @@ ghost use Rattle.test_script.specs.{FailsAt, IsScript};
 ghost use Rattle.bsonserver.specs.Runs.{AreRead, IsRefused};
 
 use crate::stop::{ServingEnd, Stop, wants_memory};
+use script_rules::Script;
 use std::alloc::Global;
 use std::fs;
 use std::rt::Files;
-use test_script::{Cause, Script, ScriptFault};
+use test_script::{Cause, ScriptFault, parse};
 
 /// The rules of a script, twice: those that answers follow, and those that say what becomes of
 /// replies.
@@ -28,8 +29,8 @@ fn parse_scripts(alloc: Global, text: &[u8]) -> Result<Scripts, ScriptFault>
     ensures replies { IfOk result (λ s. IsScript text.now s.replies.rules.items) }
     ensures fault { IfErr result (λ fault. FailsAt text.now fault) }
 {
-    let script = Script::parse(alloc, text)?;
-    let replies = Script::parse(alloc, text)?;
+    let script = parse(alloc, text)?;
+    let replies = parse(alloc, text)?;
     Ok(Scripts { script, replies })
 }
 

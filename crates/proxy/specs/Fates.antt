@@ -12,11 +12,11 @@ use Rattle.wire_msg.specs.declared.refusal.MsgRefusal.TheVariants as messages
 use Rattle.wire_query.specs.{Query, SpellsQuery, message_of, raw_query_bytes, reply_bytes}
 use Rattle.wire_query.specs.{reply_len}
 use Rattle.wire_query.specs.Replies.{command_head}
-use Rattle.test_script.specs.{RuleView, after, met}
-use Rattle.test_script.specs.declared.action.Action.{Action}
-use Rattle.test_script.specs.declared.action.Action.TheVariants as actions
-use Rattle.test_script.specs.declared.action.Flow.{Flow}
-use Rattle.test_script.specs.declared.action.Flow.TheVariants as flows
+use Rattle.script_rules.specs.{RuleView, after, met}
+use Rattle.script_rules.specs.declared.action.Action.{Action}
+use Rattle.script_rules.specs.declared.action.Action.TheVariants as actions
+use Rattle.script_rules.specs.declared.action.Flow.{Flow}
+use Rattle.script_rules.specs.declared.action.Flow.TheVariants as flows
 use Rattle.proxy.specs.declared.fate.Fate.{Fate}
 use Rattle.proxy.specs.declared.fate.Fate.TheVariants as fates
 use Rattle.proxy.specs.declared.fate.Request.{Request}

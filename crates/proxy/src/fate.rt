@@ -6,15 +6,15 @@ ghost use Rattle.bson_elem.specs.{Spells, Tree};
 ghost use Rattle.bson_raw.specs.{document_bytes};
 ghost use Rattle.bson_doc.specs.{tree_of};
 ghost use Rattle.wire_frames.specs.{frame_bytes};
-ghost use Rattle.test_script.specs.{after, first_met};
+ghost use Rattle.script_rules.specs.{after, first_met};
 ghost use Rattle.proxy.specs.Fates.{Asked, Becomes, IsAsked, IsFate, IsLeft, IsReplied};
 ghost use Rattle.proxy.specs.Fates.{IsReplyRefusal, IsRequest, asked_content, reply_size, reply_to};
 ghost use Rattle.proxy.specs.Fates.{wants_reply};
 
 use bson_doc::{DocRefusal, Document};
 use bson_raw::RawDocument;
+use script_rules::{Action, Flow, Script};
 use std::alloc::{AllocError, Global};
-use test_script::{Action, Flow, Script};
 use wire_frames::RawFrame;
 use wire_msg::{MAX_MESSAGE_LEN, MsgFlags, MsgRefusal, PayloadBuf, RawMsg, write_msg};
 use wire_query::{RawQuery, ReplyHead, write_reply};

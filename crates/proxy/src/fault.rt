@@ -5,21 +5,16 @@ ghost use Rattle.proxy.specs.Faults.{fault_text};
 
 use std::alloc::AllocError;
 use std::{fmt, io};
-use test_script::ScriptFault;
 
 /// Why a proxy ends early.
 #[derive(Drop)]
 pub enum ProxyFault {
-    /// The script is at fault.
-    Script(ScriptFault),
     /// It can't listen.
     Listen(io::Error),
     /// The server's address can't be found.
     Upstream(io::Error),
     /// The server's address is where the proxy listens.
     Itself,
-    /// The script can't be read.
-    ScriptFile(io::Error),
     /// The file of the port can't be written.
     PortFile(io::Error),
     /// The file of records can't be written.
@@ -34,11 +29,9 @@ impl ProxyFault {
         ensures { result.now ≡ fault_text self.now }
     {
         match self {
-            ProxyFault::Script(_) => "the script is at fault: ",
             ProxyFault::Listen(_) => "can't listen: ",
             ProxyFault::Upstream(_) => "the server's address: ",
             ProxyFault::Itself => "the server's address is the proxy's own",
-            ProxyFault::ScriptFile(_) => "the script can't be read: ",
             ProxyFault::PortFile(_) => "the file of the port can't be written: ",
             ProxyFault::RecordFile(_) => "the file of records can't be written: ",
             ProxyFault::Io(_) => "",
@@ -50,11 +43,9 @@ impl fmt::Display for ProxyFault {
     fn fmt<W: fmt::Write>(&self, f: &mut fmt::Formatter<W>) -> fmt::Result {
         f.write_str(self.text())?;
         match self {
-            ProxyFault::Script(fault) => write!(f, "{fault}"),
             ProxyFault::Itself => Ok(()),
             ProxyFault::Listen(error)
             | ProxyFault::Upstream(error)
-            | ProxyFault::ScriptFile(error)
             | ProxyFault::PortFile(error)
             | ProxyFault::RecordFile(error)
             | ProxyFault::Io(error) => write!(f, "{error}"),

@@ -10,7 +10,7 @@
 //! seed, from which it is drawn where each connection is cut. With a script a `HeldLink` holds each
 //! message until it is whole, and `fate` asks the script.
 //!
-//! Uses sockets, test_script, wire_frames and wire_text. Used by shared_proxy and bsonproxy. Read
+//! Uses sockets, script_rules, wire_frames and wire_text. Used by shared_proxy and bsonproxy. Read
 //! first: `options`, `pair`, `sink`, and then `proxy`.
 #![tactic(auto)]
 
@@ -40,7 +40,7 @@ pub use fate::{Fate, fate_of};
 pub use fault::ProxyFault;
 pub use held_link::HeldLink;
 pub use options::{Options, Show, Watching};
-pub use serving::{listen, read_script, run};
+pub use serving::{listen, run};
 pub use sink::Sink;
 pub use socket::Socket;
 pub use sockets::{LISTENER, STDIN};

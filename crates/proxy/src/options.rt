@@ -29,7 +29,7 @@ pub struct Options<'a> {
     pub until_stdin_closes: bool,
     /// The file to write the port to.
     pub port_file: Option<&'a str>,
-    /// The file of the script.
+    /// The file of the script, whose rules `run` is given.
     pub script: Option<&'a str>,
     /// The seed from which it is drawn where connections are cut.
     pub seed: Option<u64>,

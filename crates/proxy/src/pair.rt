@@ -7,13 +7,13 @@ use crate::held_link::HeldLink;
 use crate::sink::Sink;
 use crate::socket::Socket;
 use crate::watch::Watches;
+use script_rules::{Flow, Script};
 use sockets::{IoFailure, NoTap, Relay, RelayFault, Turned};
 use std::alloc::{AllocError, Global};
 use std::io;
 use std::io::{ErrorKind, Write};
 use std::rt::Files;
 use std::time::Clock;
-use test_script::{Flow, Script};
 
 /// The most steps of a turn.
 const STEPS: u32 = 16;

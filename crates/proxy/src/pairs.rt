@@ -12,6 +12,7 @@ use crate::pair::{Outcome, Pair};
 use crate::sink::Sink;
 use crate::socket::Socket;
 use mio::net::TcpStream;
+use script_rules::Script;
 use slab::Slab;
 use sockets::{Delays, IoFailure};
 use std::alloc::{AllocError, Global};
@@ -20,7 +21,6 @@ use std::io;
 use std::io::Write;
 use std::rt::Files;
 use std::time::{Clock, Duration};
-use test_script::Script;
 
 /// The most pairs at once.
 pub const ROOM: usize = 1024;

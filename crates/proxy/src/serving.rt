@@ -8,14 +8,14 @@ use crate::proxy::Proxy;
 use crate::sink::Sink;
 use mio::Events;
 use mio::net::{TcpListener, UdpSocket};
+use script_rules::Script;
 use sockets::{Acceptor, EVENTS, LISTENER, address_of, bind, tell_listening, tell_port};
 use std::alloc::Global;
-use std::io::{BufWriter, ErrorKind, Input, Write};
+use std::io;
+use std::io::{BufWriter, Input, Write};
 use std::net::{IpAddr, Ipv4Addr, Ipv6Addr, Net, SocketAddr};
 use std::rt::Files;
 use std::time::Clock;
-use std::{fs, io};
-use test_script::{Cause, Script, ScriptFault};
 
 /// Returns the address that a connection to this one comes to: of all addresses the loopback one.
 fn reached(address: IpAddr) -> IpAddr {
@@ -52,42 +52,6 @@ fn meets<R: Net>(rt: &R, address: SocketAddr, local: SocketAddr) -> bool {
     let (far, near) = (reached(address.ip()), local.ip());
     let is_all = near.is_unspecified() && (near.is_ipv6() || far.is_ipv4());
     address.port() == local.port() && (far == near || is_all && is_own(rt, far))
-}
-
-/// Returns the fault of a proxy whose script has this one.
-fn fault_of(fault: ScriptFault) -> ProxyFault {
-    match fault.cause {
-        Cause::OutOfMemory => ProxyFault::Io(io::Error::from(ErrorKind::OutOfMemory)),
-        _ => ProxyFault::Script(fault),
-    }
-}
-
-/// Reads the text of a script.
-fn script_of(alloc: Global, text: &[u8]) -> Result<Option<Script>, ProxyFault> {
-    match Script::parse(alloc, text) {
-        Ok(script) => Ok(Some(script)),
-        Err(fault) => Err(fault_of(fault)),
-    }
-}
-
-/// Reads the script, if a file of one is given.
-///
-/// # Errors
-///
-/// Returns `Script` if the script is at fault, `ScriptFile` if it can't be read or memory runs out
-/// meanwhile, and `Io` if memory runs out for its rules.
-pub fn read_script<R: Files + Alloc>(
-    rt: &R,
-    alloc: Global,
-    file: Option<&str>,
-) -> Result<Option<Script>, ProxyFault> {
-    let Some(file) = file else {
-        return Ok(None);
-    };
-    match fs::read(rt, file) {
-        Ok(text) => script_of(alloc, &text),
-        Err(error) => Err(ProxyFault::ScriptFile(error)),
-    }
 }
 
 /// Writes to `out` where the proxy listens, and the port to the file, if one is given.
@@ -200,21 +164,21 @@ fn serve_faults<R: Net + Files + Clock + Input, W: Write>(
 }
 
 /// Listens where the options say, and passes connections to the server until as many of them ended
-/// as they ask for, or until standard input ends, if they say so. Writes to `out` where it listens,
-/// and what is shown of the connections, and to the file of records the messages. Opens no socket and
-/// no file if they ask for 0 connections.
+/// as they ask for, or until standard input ends, if they say so. What becomes of requests and their
+/// replies is said by the script, if there is one. Writes to `out` where it listens, and what is
+/// shown of the connections, and to the file of records the messages. Opens no socket and no file if
+/// they ask for 0 connections.
 ///
 /// # Errors
 ///
-/// Returns `Script` or `ScriptFile` if the script is at fault or can't be read, which is told before
-/// it listens; and the errors of `listen` and `serve`. A connection that fails ends alone.
-pub fn run<R: Net + Files + Clock + Input + Alloc, W: Write + Drop>(
+/// Returns the errors of `listen` and `serve`. A connection that fails ends alone.
+pub fn run<R: Net + Files + Clock + Input, W: Write + Drop>(
     rt: &R,
     alloc: Global,
     options: Options<'_>,
+    script: Option<Script>,
     out: W,
 ) -> Result<(), ProxyFault> {
-    let script = read_script(rt, alloc, options.script)?;
     if options.connections == 0 {
         return Ok(());
     }

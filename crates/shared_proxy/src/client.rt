@@ -6,13 +6,13 @@ ghost use Rattle.wire_share.specs.{new_downstream};
 use crate::leave::Leave;
 use crate::line::{Line, Step};
 use proxy::{Sink, Watches};
+use script_rules::Flow;
 use sockets::Tap;
 use std::alloc::{AllocError, Global};
 use std::io;
 use std::io::Write;
 use std::rt::Files;
 use std::time::Clock;
-use test_script::Flow;
 use wire_share::Downstream;
 use wire_stream::{Moved, Pulled};
 

@@ -5,7 +5,8 @@ use crate::connector::Connector;
 use crate::sharing::Sharing;
 use crate::turns::Turns;
 use mio::Events;
-use proxy::{LISTENER, Options, ProxyFault, listen, read_script, serve};
+use proxy::{LISTENER, Options, ProxyFault, listen, serve};
+use script_rules::Script;
 use sockets::{Acceptor, EVENTS};
 use std::alloc::Global;
 use std::io::{BufWriter, Input, Write};
@@ -15,22 +16,22 @@ use std::time::Clock;
 
 /// Listens where the options say, and passes the requests of all clients on over at most `most`
 /// connections to the server, until as many clients are gone as they ask for, or until standard input
-/// ends, if they say so. Writes to `out` where it listens, and what is told of the connections, and to
-/// the file of records the messages. Opens no socket and no file if they ask for 0 clients.
+/// ends, if they say so. What becomes of requests and their replies is said by the script, if there
+/// is one. Writes to `out` where it listens, and what is told of the connections, and to the file of
+/// records the messages. Opens no socket and no file if they ask for 0 clients.
 ///
 /// # Errors
 ///
-/// Returns `Script` or `ScriptFile` if the script is at fault or can't be read, which is told before
-/// it listens; and the errors of `listen` and `serve`. A connection that fails ends alone, with the
-/// calls that went over it.
-pub fn run<R: Net + Files + Clock + Input + Alloc, W: Write + Drop>(
+/// Returns the errors of `listen` and `serve`. A connection that fails ends alone, with the calls
+/// that went over it.
+pub fn run<R: Net + Files + Clock + Input, W: Write + Drop>(
     rt: &R,
     alloc: Global,
     options: Options<'_>,
+    script: Option<Script>,
     most: usize,
     out: W,
 ) -> Result<(), ProxyFault> {
-    let script = read_script(rt, alloc, options.script)?;
     if options.connections == 0 {
         return Ok(());
     }

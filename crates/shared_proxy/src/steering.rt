@@ -3,12 +3,12 @@
 use crate::client::Client;
 use crate::leave::Leave;
 use proxy::{Direction, Fate, Sink, fate_of};
+use script_rules::{Flow, Script};
 use std::alloc::Global;
 use std::io;
 use std::io::Write;
 use std::rt::Files;
 use std::time::Clock;
-use test_script::{Flow, Script};
 use wire_frames::{FrameFront, RawFrame};
 use wire_msg::MAX_MESSAGE_LEN;
 

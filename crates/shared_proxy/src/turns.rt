@@ -6,6 +6,7 @@ use crate::sharing::Sharing;
 use crate::steering::{Steered, release, steer};
 use mio::{Events, Registry, Token};
 use proxy::{EventLoop, LISTENER, STDIN, Sink};
+use script_rules::Script;
 use sockets::ACCEPTS;
 use std::alloc::Global;
 use std::io;
@@ -13,7 +14,6 @@ use std::io::{ErrorKind, Write};
 use std::net::Net;
 use std::rt::Files;
 use std::time::Clock;
-use test_script::Script;
 
 /// The most steps of a turn.
 const STEPS: u32 = 16;

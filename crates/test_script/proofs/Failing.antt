@@ -3,7 +3,7 @@ use Rattle.std.proofs.Common.{◌≡◌, ◌∙◌, ℕ, List, Option, ap, inl, 
 use Rattle.bson_raw.specs.{TreeValue}
 use Rattle.test_script.specs.declared.fault.Cause.{Cause}
 use Rattle.test_script.specs.declared.fault.Cause.TheVariants as causes
-use Rattle.test_script.specs.declared.action.Action.{Action}
+use Rattle.script_rules.specs.declared.action.Action.{Action}
 use Rattle.test_script.specs.Lines.{FailsBy, HasCommand, IsAction, IsActionFault, IsFilter, IsNoActionFor, IsTimes, after_command, after_filter, after_times, behind_filter, behind_times, filter_at, times_at}
 use Rattle.test_script.specs.Written.{IsJsonCause}
 

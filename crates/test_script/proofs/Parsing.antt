@@ -2,7 +2,7 @@
 use Rattle.std.proofs.Common.{◌≡◌, ◌∙◌, ◌++◌, ℕ, List, [], ◌∷◌, refl, sym, ap, subst, append-nil, append_assoc}
 use Rattle.test_script.specs.declared.fault.ScriptFault.{ScriptFault}
 use Rattle.test_script.specs.Lines.{FailsBy, IsRule}
-use Rattle.test_script.specs.Rules.{RuleView}
+use Rattle.script_rules.specs.Rules.{RuleView}
 use Rattle.test_script.specs.Scripts.{AreRules, FailsIn}
 
 abbrev pub Numbered : Type 0

@@ -8,13 +8,13 @@ use Rattle.doc_query.specs.{filter_in}
 use Rattle.doc_query.specs.declared.failure.CommandError.{CommandError}
 use Rattle.command_parts.specs.{error_pairs}
 use Rattle.script_lines.specs.{IsNumber}
-use Rattle.test_script.specs.declared.action.Action.{Action}
-use Rattle.test_script.specs.declared.action.Action.TheVariants as actions
+use Rattle.script_rules.specs.declared.action.Action.{Action}
+use Rattle.script_rules.specs.declared.action.Action.TheVariants as actions
 use Rattle.test_script.specs.declared.fault.Cause.{Cause}
 use Rattle.test_script.specs.declared.fault.Cause.TheVariants as causes
 use Rattle.test_script.specs.declared.keyword.Keyword.{Keyword}
 use Rattle.test_script.specs.declared.keyword.Keyword.TheVariants as keywords
-use Rattle.test_script.specs.Rules.{RuleView}
+use Rattle.script_rules.specs.Rules.{RuleView}
 use Rattle.test_script.specs.Tokens.{begins_value, behind, word_in}
 use Rattle.test_script.specs.Written.{AreTwoWords, IsDocument, IsNoDocumentFor, IsNothing}
 use Rattle.test_script.specs.Written.{IsOneWord, IsQuoted}

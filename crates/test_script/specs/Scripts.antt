@@ -1,9 +1,10 @@
 -- What a script is read as.
-use Rattle.std.specs.Prelude.{◌≡◌, ℕ, List, [], ◌∷◌, ◌++◌}
+use Rattle.std.specs.Prelude.{◌≡◌, ◌≢◌, ℕ, List, [], ◌∷◌, ◌++◌, Option, Some, None}
 use Rattle.script_lines.specs.{script_lines}
+use Rattle.test_script.specs.declared.fault.Cause.TheVariants as causes
 use Rattle.test_script.specs.declared.fault.ScriptFault.{ScriptFault}
 use Rattle.test_script.specs.Lines.{FailsBy, IsRule}
-use Rattle.test_script.specs.Rules.{RuleView}
+use Rattle.script_rules.specs.Rules.{RuleView}
 
 -- these numbered lines are these rules, in order
 abbrev pub AreRules : List (ℕ × List ℕ) → List RuleView → Type 0
@@ -28,3 +29,9 @@ pub record FailsIn (lines : List (ℕ × List ℕ)) (fault : ScriptFault) : Type
 -- the script fails at its first line that is no rule
 abbrev pub FailsAt : List ℕ → ScriptFault → Type 0
 FailsAt text fault = FailsIn (script_lines text) fault
+
+-- a file of a script is named, and a text fails so, but not for want of memory
+abbrev pub IsMisread : (file : Option (List ℕ)) → ScriptFault → Type 0
+IsMisread None fault = ⊥
+IsMisread (Some file) fault =
+    ((text : List ℕ) × FailsAt text fault) × (fault.cause ≢ causes.OutOfMemory)

@@ -1,21 +1,20 @@
 //! Reads a line of a script.
 
 ghost use Rattle.std.specs.Prelude.{◌≡◌, ℕ, Err, IfErr, IfNone, IfOk, IfSome, List};
-ghost use Rattle.test_script.specs.declared.action.Action.{Action as Done};
+ghost use Rattle.script_rules.specs.declared.action.Action.{Action as Done};
 ghost use Rattle.test_script.specs.Lines.{FailsBy, HasCommand, IsAction, IsActionFault};
 ghost use Rattle.test_script.specs.Lines.{IsActionOf, IsNoActionFor, IsReplyOf, IsRule};
 ghost use Rattle.test_script.specs.Lines.{after_command};
 ghost use Rattle.test_script.specs.Tokens.{behind, word_in};
 
-use crate::action::Action;
 use crate::fault::Cause;
 use crate::keyword::{Keyword, read_keyword};
 use crate::operands::{error, is_nothing, one_number, one_word, reply};
 use crate::parts::{cut_filter, cut_times, read_command, read_filter, read_times};
-use crate::rule::Rule;
 use crate::token::{begins_value, cut_word};
 use crate::written::no_document;
 use script_lines::LineError;
+use script_rules::{Action, Rule};
 use std::alloc::Global;
 
 /// Reads the operands of an action.

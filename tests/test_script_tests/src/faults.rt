@@ -1,7 +1,7 @@
 //! Tests of lines that are no rules.
 
 use std::alloc::Global;
-use test_script::{Cause, Script, ScriptFault};
+use test_script::{Cause, ScriptFault, parse};
 
 /// A row for each script: it, with `~` for each line feed, the line at fault, and why. The characters
 /// of Extended JSON are counted by hand.
@@ -41,7 +41,7 @@ on find cutup 1 2 | 1 | Action"#;
 fn fails(alloc: Global, row: &str) -> Option<bool> {
     let (text, wanted) = row.split_once(" | ")?;
     let text = text.replace(alloc, '~', "\n").ok()?;
-    let ScriptFault { line, cause } = Script::parse(alloc, text.as_bytes()).err()?;
+    let ScriptFault { line, cause } = parse(alloc, text.as_bytes()).err()?;
     let found = format!(in alloc; "{line} | {cause:?}").ok()?;
     Some(found.as_str() == wanted)
 }
@@ -55,7 +55,7 @@ fn lines_that_are_no_rules(rt: HostRuntime) {
 
 #[test]
 fn a_filter_that_is_no_text(rt: HostRuntime) {
-    let script = Script::parse(rt.alloc(), b"on find {\"\xff\": 1} pass");
+    let script = parse(rt.alloc(), b"on find {\"\xff\": 1} pass");
     assert!(rt; script.is_err_and(|fault| fault.line == 1 && fault.cause == Cause::Filter));
 }
 

@@ -1,8 +1,9 @@
 //! Tests of the handler with a script, before one that answers `{}` to each request.
 
 use bson_json_read::from_json;
+use script_rules::Scripted;
 use std::alloc::Global;
-use test_script::{Script, Scripted};
+use test_script::parse;
 use wire_msg::PayloadBuf;
 use wire_peer::{Answers, Echo, Handler, HandlerStop, Request};
 
@@ -63,7 +64,7 @@ fn answers_so(
 
 /// Returns true if the requests are answered as the script says.
 fn all_answered(alloc: Global) -> bool {
-    let Ok(script) = Script::parse(alloc, SCRIPT) else {
+    let Ok(script) = parse(alloc, SCRIPT) else {
         return false;
     };
     let Some(asked) = payload(alloc, "{\"a\": 1}") else {

@@ -1,7 +1,7 @@
 //! Tests of what no contract of scripts says: that the definitions mean the forms of rules, that a
 //! line of each form is read if there is memory, and what a fault says.
 //!
-//! Uses test_script. Read first: `rules`.
+//! Uses script_rules and test_script. Read first: `rules`.
 #![tactic(auto)]
 
 #[cfg(test)]

@@ -2,8 +2,8 @@
 
 use bson_doc::Document;
 use bson_json_read::from_json;
+use script_rules::{Action, Flow, Script};
 use std::alloc::Global;
-use test_script::{Action, Flow, Script};
 use wire_msg::PayloadBuf;
 
 /// Rules of each form.
@@ -68,7 +68,7 @@ const ANSWERS: [(usize, &str); 3] = [
 
 /// Returns the script of `FORMS`.
 fn forms(alloc: Global) -> Option<Script> {
-    Script::parse(alloc, FORMS).ok()
+    test_script::parse(alloc, FORMS).ok()
 }
 
 /// Returns the payload whose body is this Extended JSON.

@@ -3,8 +3,9 @@
 //! through.
 
 use bson_raw::RawDocument;
+use script_rules::{Script, Scripted};
 use std::alloc::Global;
-use test_script::{Cause, Script, Scripted};
+use test_script::{Cause, parse};
 use wire_msg::PayloadBuf;
 use wire_peer::{Answers, Echo, Handler, HandlerStop, Request};
 
@@ -16,9 +17,9 @@ const SCRIPT: &[u8] = b"on a {\"a\": 1} times 1 error 1 \"One\"\non * reply {\"b
 
 /// Reads the script, at the second try if memory runs out.
 fn read_at_last(alloc: Global) -> Option<Script> {
-    match Script::parse(alloc, SCRIPT) {
+    match parse(alloc, SCRIPT) {
         Ok(script) => Some(script),
-        Err(fault) if fault.cause == Cause::OutOfMemory => Script::parse(alloc, SCRIPT).ok(),
+        Err(fault) if fault.cause == Cause::OutOfMemory => parse(alloc, SCRIPT).ok(),
         Err(_) => None,
     }
 }

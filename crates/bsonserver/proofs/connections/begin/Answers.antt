@@ -1,6 +1,6 @@
 use Rattle.std.proofs.Common.{[], ◌∙◌, ap, subst}
 use Rattle.test_store.specs.{store_of}
-use Rattle.test_script.specs.declared.script.Script.{Script}
+use Rattle.script_rules.specs.declared.script.Script.{Script}
 use Rattle.bsonserver.specs.Runs.{StandsAt}
 use Rattle.bsonserver.proofs.connections.begin.Goals as goal
 

@@ -1,4 +1,4 @@
-use Rattle.test_script.specs.{IsAnswered, IsStopped}
+use Rattle.script_rules.specs.{IsAnswered, IsStopped}
 use Rattle.test_store.specs.{Answered, StopsAt}
 use Rattle.bsonserver.specs.Runs.{socket_tells}
 use Rattle.bsonserver.proofs.Steps.{serves_none, serves_twice}

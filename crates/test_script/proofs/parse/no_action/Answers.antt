@@ -1,5 +1,5 @@
 use Rattle.std.proofs.Common.{inl, refl}
-use Rattle.test_script.specs.declared.action.Action.TheVariants as actions
+use Rattle.script_rules.specs.declared.action.Action.TheVariants as actions
 use Rattle.test_script.specs.declared.keyword.Keyword.TheVariants as keywords
 use Rattle.test_script.specs.Lines.{IsActionOf, IsReply}
 use Rattle.test_script.specs.Tokens.{behind}

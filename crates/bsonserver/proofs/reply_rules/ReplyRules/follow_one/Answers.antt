@@ -5,7 +5,7 @@ use Rattle.wire_msg.specs.declared.payload_buf.PayloadBuf.{PayloadBuf}
 use Rattle.wire_msg.specs.declared.payloads.Payload.{Payload}
 use Rattle.wire_peer.specs.{buf_content, coded_content, content_of}
 use Rattle.wire_peer.proofs.Lemmas.{content_is, of_buf_content}
-use Rattle.test_script.specs.{after, flow_by, met}
+use Rattle.script_rules.specs.{after, flow_by, met}
 use Rattle.bsonserver.proofs.reply_rules.ReplyRules.follow_one.Goals as goal
 
 -- a payload that is lent has the content of its owner

@@ -2,7 +2,7 @@ use Rattle.std.proofs.Common.{◌≡◌, ◌++◌, ◌∙◌, ap, subst}
 use Rattle.std.specs.Prelude.{IfOk, OnOk}
 use Rattle.wire_msg.specs.{Content, canonical, msg_bytes}
 use Rattle.wire_query.specs.{message_of}
-use Rattle.test_script.specs.{after, first_met}
+use Rattle.script_rules.specs.{after, first_met}
 use Rattle.proxy.specs.Fates.{IsRequest}
 use Rattle.proxy.proofs.Requests.{IsMessageOf, content_of_message, content_of_query, query_spelled}
 use Rattle.proxy.proofs.fate.Request.meet.Goals as goal

@@ -1,0 +1,4 @@
+pub mod WholeBody
+pub mod Handled
+pub mod Meets
+pub mod Used

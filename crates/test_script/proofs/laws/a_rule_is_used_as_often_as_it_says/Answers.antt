@@ -1,5 +1,0 @@
-use Rattle.test_script.proofs.Used.{used_at_most}
-use Rattle.test_script.proofs.laws.a_rule_is_used_as_often_as_it_says.Goals as goal
-
-pub returns : goal.returns
-returns c = used_at_most
