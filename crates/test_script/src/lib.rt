@@ -4,13 +4,13 @@
 //! its rules do is said in script_rules.
 //!
 //! Stands on script_rules, bson_json_read, script_lines and command_parts. bsonproxy and bsonserver
-//! stand on it. Read first: `specs/Lines.antt`, and then `parse` and `script`.
+//! stand on it. Read first: `specs/Lines.antt`, and then `line` and `script`.
 #![tactic(auto)]
 
 mod fault;
 mod keyword;
+mod line;
 mod operands;
-mod parse;
 mod parts;
 mod script;
 mod token;

@@ -6,7 +6,7 @@ ghost use Rattle.test_script.specs.Lines.{FailsBy, IsRule};
 ghost use Rattle.test_script.specs.Scripts.{FailsAt, IsScript};
 
 use crate::fault::{Cause, ScriptFault};
-use crate::parse::parse_rule;
+use crate::line::parse_rule;
 use script_lines::{Lines, NumberedLine};
 use script_rules::{Rule, Script};
 use std::alloc::Global;

@@ -3,7 +3,7 @@ use Rattle.script_rules.specs.declared.action.Action.TheVariants as actions
 use Rattle.test_script.specs.declared.keyword.Keyword.TheVariants as keywords
 use Rattle.test_script.specs.Lines.{IsActionOf, IsReply}
 use Rattle.test_script.specs.Tokens.{behind}
-use Rattle.test_script.proofs.parse.no_action.Goals as goal
+use Rattle.test_script.proofs.line.no_action.Goals as goal
 
 pub no_document-requires : goal.no_document-requires
 no_document-requires c = λ d is.

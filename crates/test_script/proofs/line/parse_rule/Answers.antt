@@ -1,5 +1,5 @@
 use Rattle.test_script.proofs.Failing.{action_fails}
-use Rattle.test_script.proofs.parse.parse_rule.Goals as goal
+use Rattle.test_script.proofs.line.parse_rule.Goals as goal
 
 pub returns-in-Err-clause-fault : goal.returns-in-Err-clause-fault
 returns-in-Err-clause-fault c =

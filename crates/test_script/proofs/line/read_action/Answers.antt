@@ -1,6 +1,6 @@
 use Rattle.std.proofs.Common.{Err, ap}
 use Rattle.test_script.proofs.Failing.{action_fault}
-use Rattle.test_script.proofs.parse.read_action.Goals as goal
+use Rattle.test_script.proofs.line.read_action.Goals as goal
 
 pub no_action-requires : goal.no_action-requires
 no_action-requires c = c.in-Err-Malformed.ensures.none (ap Err c.in-Err-Malformed.field-0-is)

@@ -2,7 +2,7 @@ use Rattle.std.proofs.Common.{◌≡◌, Result, Err, ap, subst}
 use Rattle.test_script.specs.declared.keyword.Keyword.{Keyword}
 use Rattle.script_lines.specs.declared.errors.LineError.{LineError}
 use Rattle.test_script.specs.Lines.{IsActionOf}
-use Rattle.test_script.proofs.parse.action_of.Goals as goal
+use Rattle.test_script.proofs.line.action_of.Goals as goal
 
 one_error : {A : Type 0} (u v : LineError) → let l : Result A LineError = Err u in let r : Result A LineError = Err v in l ≡ r → u ≡ v
 one_error u v e = cc
