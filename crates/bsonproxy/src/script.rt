@@ -1,6 +1,6 @@
 //! Reads the script of a proxy.
 
-ghost use Rattle.std.specs.Prelude.{◌≡◌, IfErr, IfOk, option_map};
+ghost use Rattle.std.specs.Prelude.{IfErr, IfOk, option_map};
 ghost use Rattle.bsonproxy.specs.Serving.{IsRead, IsUnread};
 
 use crate::fault::ServeFault;
@@ -10,17 +10,7 @@ use std::alloc::Global;
 use std::io::ErrorKind;
 use std::rt::Files;
 use std::{fs, io};
-use test_script::{Cause, ScriptFault, parse};
-
-/// Returns why `serve` ends early whose script has this fault.
-fn fault_of(fault: ScriptFault) -> ServeFault {
-    match fault.cause {
-        Cause::OutOfMemory => {
-            ServeFault::Proxy(ProxyFault::Io(io::Error::from(ErrorKind::OutOfMemory)))
-        }
-        _ => ServeFault::Script(fault),
-    }
-}
+use test_script::{Cause, parse};
 
 /// Reads the script, if a file of one is given.
 ///
@@ -45,6 +35,10 @@ pub fn read_script<R: Files + Alloc>(
     };
     match parse(alloc, &text) {
         Ok(script) => Ok(Some(script)),
-        Err(fault) => Err(fault_of(fault)),
+        Err(fault) if fault.cause == Cause::OutOfMemory => {
+            let error = io::Error::from(ErrorKind::OutOfMemory);
+            Err(ServeFault::Proxy(ProxyFault::Io(error)))
+        }
+        Err(fault) => Err(ServeFault::Script(fault)),
     }
 }
