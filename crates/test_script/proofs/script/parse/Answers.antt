@@ -17,4 +17,4 @@ returns-in_err-add_rule-clause-fault c =
     (fails_here _ _ _ _ _ _ c.in_err-add_rule.field-0.0 c.in-Some.ensures.steps c.loop-line.invariant.2 c.in_err-add_rule.ensures.fault.0 c.in_err-add_rule.ensures.fault.1)
 
 pub returns-clause-script : goal.returns-clause-script
-returns-clause-script c = all_read _ _ _ c.in_default.ensures.steps.0 c.loop-line.invariant.2
+returns-clause-script c = rw c.from_rules.ensures (all_read _ _ _ c.in_default.ensures.steps.0 c.loop-line.invariant.2)
