@@ -21,3 +21,11 @@ pub mod SpanLaws
 pub mod OffsetLaws
 pub mod ContentLaws
 pub mod ContentWriting
+pub mod Bytes
+pub mod BuildPlaces
+pub mod PlainBytes
+pub mod Trees
+pub mod Building
+pub mod Fillings
+pub mod Nesting
+pub mod Sequences

@@ -23,3 +23,13 @@ pub mod Shown
 pub mod Offsets
 pub mod Contents
 pub mod Writing
+pub mod Refusals
+pub mod Numbers
+pub mod Values
+pub mod Placing
+pub mod Plain
+pub mod Builders
+pub mod Appends
+pub mod BuildFilling
+pub mod Nesting
+pub mod Sequences

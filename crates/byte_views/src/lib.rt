@@ -1,5 +1,5 @@
-//! Checks documents and messages, walks over them, writes their texts, and writes messages, by
-//! numbers and by views of their bytes alone.
+//! Checks documents and messages, walks over them, writes their texts, builds documents, and writes
+//! messages, by numbers and by views of their bytes alone.
 //!
 //! What crosses the border of Rattle can't be an enum, a borrowed value or a slice that a struct
 //! keeps. Each function here takes bytes, and gives a struct of numbers: what is whole there, and
@@ -15,6 +15,7 @@
 //! and lughemra, for programs in C, and by page, for a browser. Read first: `documents` and `iter`.
 #![tactic(auto)]
 
+pub mod build;
 mod content;
 mod documents;
 mod element;

@@ -144,7 +144,7 @@ fn with_numbers(
 
 /// Writes a message of at most `limit` bytes to the front of `room`, in its canonical spelling. Its
 /// body is the document that `body` is, and its document sequences are the sections that
-/// `sequences` are, as `byte_builder::append_sequence` puts them. If the message has no room,
+/// `sequences` are, as `build::append_sequence` puts them. If the message has no room,
 /// nothing is written, and its length is told.
 pub fn write_message(
     alloc: Global,

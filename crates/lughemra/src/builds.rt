@@ -5,14 +5,14 @@ ghost use Rattle.bson_elem.specs.declared.kinds.Kind.{Kind};
 ghost use Rattle.bson_elem.specs.{Spells, Tree, no_code, no_pairs};
 ghost use Rattle.bson_raw.specs.{AreDocuments, document_value, documents_bytes};
 ghost use Rattle.bson_doc.specs.Appended.{with_pair_appended};
-ghost use Rattle.byte_builder.specs.Appends.{AppendsLeaf, IsAppended};
-ghost use Rattle.byte_builder.specs.Builders.{Builds, next_name};
-ghost use Rattle.byte_builder.specs.Nesting.{IsBegun, IsEnded, IsFinished, StandsBehind};
-ghost use Rattle.byte_builder.specs.Nesting.{first_builder};
-ghost use Rattle.byte_builder.specs.Sequences.{HoldsSequences, IsSequencePut, with_sequence};
+ghost use Rattle.byte_views.specs.Appends.{AppendsLeaf, IsAppended};
+ghost use Rattle.byte_views.specs.Builders.{Builds, next_name};
+ghost use Rattle.byte_views.specs.Nesting.{IsBegun, IsEnded, IsFinished, StandsBehind};
+ghost use Rattle.byte_views.specs.Nesting.{first_builder};
+ghost use Rattle.byte_views.specs.Sequences.{HoldsSequences, IsSequencePut, with_sequence};
 ghost use Rattle.wire_msg.specs.{Sequence};
 
-use byte_builder::{Builder, Built, ValueNumbers};
+use byte_views::build::{Builder, Built, ValueNumbers};
 
 /// Returns the builder of a document that begins at the front of a room, with no pairs.
 #[unsafe(no_mangle)]
@@ -20,10 +20,10 @@ pub extern "C" fn lughemra_build() -> Builder
     ensures first { result ≡ first_builder }
     ensures empty { (room : List ℕ) → 5 ≤ length room → Builds room result no_pairs }
 {
-    byte_builder::first()
+    byte_views::build::first()
 }
 
-/// Appends a pair to what `builder` builds in `room`, as `byte_builder::append` does.
+/// Appends a pair to what `builder` builds in `room`, as `byte_views::build::append` does.
 #[unsafe(no_mangle)]
 pub extern "C" fn lughemra_append_nonnull(
     room: &mut [u8],
@@ -38,10 +38,10 @@ pub extern "C" fn lughemra_append_nonnull(
     ensures pairs { (t : Tree) → Builds room.old builder.old t → result.refusal ≡ 0
         → AppendsLeaf room.new builder.old name.now value.now text.now bytes.now builder.new t }
 {
-    byte_builder::append(room, builder, name, value, text, bytes)
+    byte_views::build::append(room, builder, name, value, text, bytes)
 }
 
-/// Opens a document or an array inside `outer`, as `byte_builder::begin` does.
+/// Opens a document or an array inside `outer`, as `byte_views::build::begin` does.
 #[unsafe(no_mangle)]
 pub extern "C" fn lughemra_begin_nonnull(
     room: &mut [u8],
@@ -56,10 +56,10 @@ pub extern "C" fn lughemra_begin_nonnull(
         × ((k : Kind) × StandsBehind room.new outer.now inner.new k
         (next_name outer.now name.now)) }
 {
-    byte_builder::begin(room, outer, name, kind, inner)
+    byte_views::build::begin(room, outer, name, kind, inner)
 }
 
-/// Ends the document or the array `inner`, as `byte_builder::end` does.
+/// Ends the document or the array `inner`, as `byte_views::build::end` does.
 #[unsafe(no_mangle)]
 pub extern "C" fn lughemra_end_nonnull(
     room: &mut [u8],
@@ -72,10 +72,10 @@ pub extern "C" fn lughemra_end_nonnull(
         → result.refusal ≡ 0
         → Builds room.new outer.new (with_pair_appended name (document_value k no_code u) t) }
 {
-    byte_builder::end(room, outer, inner)
+    byte_views::build::end(room, outer, inner)
 }
 
-/// Ends the outermost document, as `byte_builder::finish` does.
+/// Ends the outermost document, as `byte_views::build::finish` does.
 #[unsafe(no_mangle)]
 pub extern "C" fn lughemra_finish_nonnull(room: &mut [u8], builder: &Builder) -> Built
     ensures finished { IsFinished room.old builder.now room.new result }
@@ -83,11 +83,11 @@ pub extern "C" fn lughemra_finish_nonnull(room: &mut [u8], builder: &Builder) ->
         → builder.now.depth ≡ 1 → result.refusal ≡ 0
         → Spells t (take result.wanted room.new) }
 {
-    byte_builder::finish(room, builder)
+    byte_views::build::finish(room, builder)
 }
 
 /// Appends a document sequence to those in the first `end` bytes of `room`, as
-/// `byte_builder::append_sequence` does.
+/// `byte_views::build::append_sequence` does.
 #[unsafe(no_mangle)]
 pub extern "C" fn lughemra_append_sequence_nonnull(
     room: &mut [u8],
@@ -101,5 +101,5 @@ pub extern "C" fn lughemra_append_sequence_nonnull(
         → AreDocuments ts → documents.now ≡ documents_bytes ts → result.refusal ≡ 0
         → HoldsSequences room.new end.new (with_sequence qs identifier.now ts) }
 {
-    byte_builder::append_sequence(room, end, identifier, documents)
+    byte_views::build::append_sequence(room, end, identifier, documents)
 }

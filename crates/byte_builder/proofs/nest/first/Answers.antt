@@ -1,5 +1,0 @@
-use Rattle.byte_builder.proofs.Nesting.{begins}
-use Rattle.byte_builder.proofs.nest.first.Goals as goal
-
-pub returns-clause-empty : goal.returns-clause-empty
-returns-clause-empty c = λ room five. begins room five

@@ -1,6 +1,0 @@
-use Rattle.std.proofs.Common.{arith, eqb-true}
-use Rattle.byte_builder.proofs.PlainBytes.{plain_lanes}
-use Rattle.byte_builder.proofs.plain.are_plain_4.Goals as goal
-
-pub returns : goal.returns
-returns c = λ e. plain_lanes c.args.bytes.now c.args.at 4 c.requires (omega arith) c.type_inv.bytes (eqb-true _ _ e)

@@ -1,0 +1,6 @@
+use Rattle.std.proofs.Common.{arith, eqb-true}
+use Rattle.byte_views.proofs.PlainBytes.{plain_lanes}
+use Rattle.byte_views.proofs.build.plain.are_plain_16.Goals as goal
+
+pub returns : goal.returns
+returns c = λ e. plain_lanes c.args.bytes.now c.args.at 16 c.requires (omega arith) c.type_inv.bytes (eqb-true _ _ e)
