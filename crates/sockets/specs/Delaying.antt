@@ -1,6 +1,6 @@
 -- The connections of which a message is held.
-use Rattle.std.specs.Prelude.{◌≡◌, ◌==◌, ◌*◌, ◌+◌, ℕ, List, Option, None, Some}
-use Rattle.std.specs.Prelude.{IsSome, MatchOption, position, remove, slice_get}
+use Rattle.std.specs.Prelude.{◌≡◌, ◌==◌, ◌-◌, ◌*◌, ◌+◌, ℕ, Bool, List, Option, None, Some}
+use Rattle.std.specs.Prelude.{false, true, [], ◌∷◌, ◌++◌, MatchOption, position, remove, slice_get}
 use Rattle.std.specs.Time.{FitsClock, instant_nanos}
 use Rattle.std.specs.declared.time.Instant.{Instant}
 use Rattle.sockets.specs.declared.delays.Delay.{Delay}
@@ -23,11 +23,22 @@ pub record IsHeldFor (key millis : ℕ) (d : Delay) : Type 0 where
   pub due : MatchOption d.due (FitsClock (instant_nanos now + millis * 1000000) → ⊥)
       (λ t. instant_nanos t ≡ instant_nanos now + millis * 1000000)
 
--- One connection was taken out, which has this key and a moment at which its message is let go.
+-- a message of this connection is held for so many milliseconds from now on
+abbrev pub Holds : (key millis : ℕ) → (old new : List Delay) → Type 0
+Holds key millis old new = (d : Delay) × IsHeldFor key millis d × (new ≡ old ++ d ∷ [])
+
+-- a message that is let go at this moment, if there is one, is let go by now
+abbrev pub is_due : Option Instant → (now : Instant) → Bool
+is_due None now = false
+is_due (Some due) now = (instant_nanos due - instant_nanos now) == 0
+
+-- One connection was taken out, which has this key, and whose message is let go by some moment of
+-- the clock.
 pub record IsTaken (key : ℕ) (old new : List Delay) : Type 0 where
   pub i : ℕ
   pub taken : Delay
   pub at : slice_get old i ≡ Some taken
   pub has_key : taken.key ≡ key
-  pub has_due : IsSome taken.due
+  pub now : Instant
+  pub due : is_due taken.due now ≡ true
   pub others : new ≡ remove old i

@@ -1,7 +1,10 @@
 //! Accepts connections, as many as are wanted, and waits for what happens on them.
 
-ghost use Rattle.std.specs.Prelude.{◌≡◌, ◌+◌, IfOk, IfSome, None, Some, false, true};
+ghost use Rattle.std.specs.Prelude.{◌≡◌, ◌↔◌, ◌+◌, IfOk, IfSome, IsTrue, None, Some, false, true};
+ghost use Rattle.std.specs.Prelude.{min, option_map};
+ghost use Rattle.std.specs.Duration.{as_nanos};
 ghost use Rattle.mio.specs.declared.net.stream.TcpStream.{TcpStream};
+ghost use Rattle.sockets.specs.Waiting.{IsReady, wait_nanos};
 
 use crate::failure::IoFailure;
 use crate::polling;
@@ -34,6 +37,13 @@ pub struct Acceptor {
     wanted: u64,
 }
 
+/// Returns the shorter one of two times.
+fn shorter(a: Duration, b: Duration) -> Duration
+    ensures { as_nanos result ≡ min (as_nanos a) (as_nanos b) }
+{
+    if a.saturating_sub(b).is_zero() { a } else { b }
+}
+
 impl Acceptor {
     /// Begins to accept `wanted` connections at a listener, which is registered under `token`.
     ///
@@ -48,6 +58,7 @@ impl Acceptor {
     ) -> io::Result<Acceptor>
         ensures wanted { IfOk result (λ a. a.wanted ≡ wanted) }
         ensures returned { IfOk result (λ a. a.returned ≡ None) }
+        ensures ready { IfOk result IsReady }
     {
         let poll = Poll::new(net)?;
         let mut listener = listener;
@@ -97,12 +108,15 @@ impl Acceptor {
     pub fn resume(&mut self)
         ensures kept { (self.new.returned ≡ self.old.returned)
             × (self.new.wanted ≡ self.old.wanted) }
+        ensures ready { IsReady self.new }
     {
         self.standing = Standing::Ready;
     }
 
     /// Returns true if a connection may wait.
-    pub fn is_ready(&self) -> bool {
+    pub fn is_ready(&self) -> bool
+        ensures { IsTrue result ↔ IsReady self.now }
+    {
         self.standing == Standing::Ready
     }
 
@@ -188,6 +202,7 @@ impl Acceptor {
     fn hold_back(&mut self, standing: Standing, reason: WaitReason)
         ensures returned { self.new.returned ≡ self.old.returned }
         ensures wanted { self.new.wanted ≡ self.old.wanted }
+        ensures standing { self.new.standing ≡ standing }
     {
         self.standing = standing;
         if self.backlog == Backlog::None {
@@ -200,6 +215,7 @@ impl Acceptor {
     pub fn take_back(&mut self, stream: TcpStream, failure: IoFailure)
         ensures returned { self.new.returned ≡ Some stream }
         ensures wanted { self.new.wanted ≡ self.old.wanted }
+        ensures pauses { self.new.standing ≡ Standing.Pauses }
     {
         let mut stream = stream;
         // It may not be registered.
@@ -237,15 +253,21 @@ impl Acceptor {
 
     /// Returns how long events are waited for: not at all if a connection may wait or there is more
     /// to do, for a pause if accepting failed, and no longer than `least`.
-    fn timeout(&self, has_more: bool, least: Option<Duration>) -> Option<Duration> {
-        if has_more || self.standing == Standing::Ready {
+    fn timeout(&self, has_more: bool, least: Option<Duration>) -> Option<Duration>
+        ensures { option_map as_nanos result
+            ≡ wait_nanos self.now.standing has_more (option_map as_nanos least) }
+    {
+        if has_more {
             return Some(Duration::from_millis(0));
         }
-        if self.standing == Standing::Pauses {
-            let pause = Duration::from_millis(PAUSE);
-            return Some(least.map_or(pause, |least| least.min(pause)));
+        match self.standing {
+            Standing::Ready => Some(Duration::from_millis(0)),
+            Standing::Pauses => {
+                let pause = Duration::from_millis(PAUSE);
+                Some(least.map_or(pause, |least| shorter(least, pause)))
+            }
+            Standing::Waits => least,
         }
-        least
     }
 
     /// Waits for events: not at all if there is more to do, and no longer than `least`.

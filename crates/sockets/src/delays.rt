@@ -1,9 +1,8 @@
 //! The connections of which a message is held, each until a moment.
 
-ghost use Rattle.std.specs.Prelude.{◌≡◌, ◌++◌, ◌∷◌, [], IfOk, MatchOption, OnErr, OnOk};
-ghost use Rattle.std.specs.Prelude.{IsSome, is_some, true};
-ghost use Rattle.sockets.specs.Delaying.{IsHeldFor, IsTaken, index_of, without};
-ghost use Rattle.sockets.specs.declared.delays.Delay.{Delay};
+ghost use Rattle.std.specs.Prelude.{◌≡◌, [], IfOk, MatchOption, OnErr, OnOk};
+ghost use Rattle.std.specs.Prelude.{is_some};
+ghost use Rattle.sockets.specs.Delaying.{Holds, IsTaken, index_of, is_due, without};
 
 use std::alloc::Global;
 use std::io;
@@ -21,10 +20,10 @@ struct Delay {
 impl Delay {
     /// Returns true if the message is let go at this moment.
     fn is_due(self, now: Instant) -> bool
-        ensures { result ≡ true → IsSome self.due }
+        ensures { result ≡ is_due self.due now }
     {
         match self.due {
-            Some(due) => due <= now,
+            Some(due) => due.saturating_duration_since(now).is_zero(),
             None => false,
         }
     }
@@ -66,8 +65,7 @@ impl Delays {
     ///
     /// Returns an error if the clock can't be read, or memory runs out.
     pub fn hold(&mut self, clock: &impl Clock, key: usize, millis: u64) -> io::Result<()>
-        ensures held { OnOk result ((d : Delay) × IsHeldFor key millis d
-            × (self.new.list.items ≡ self.old.list.items ++ d ∷ [])) }
+        ensures held { OnOk result (Holds key millis self.old.list.items self.new.list.items) }
         ensures unchanged { OnErr result (self.new.list.items ≡ self.old.list.items) }
     {
         let due = Instant::now(clock)?.checked_add(Duration::from_millis(millis));

@@ -1,6 +1,6 @@
 //! Watches standard input for its end.
 
-ghost use Rattle.std.specs.Prelude.{◌≡◌, None, false};
+ghost use Rattle.std.specs.Prelude.{◌≡◌, ◌⊎◌, ◌↔◌, IsTrue, None, false};
 
 use crate::polling;
 use mio::unix::SourceFd;
@@ -13,7 +13,9 @@ const STDIN: i32 = 0;
 
 /// Returns true if more may come after an error of this kind, as where another program took what came
 /// over a pipe that both have.
-fn may_go_on(kind: ErrorKind) -> bool {
+fn may_go_on(kind: ErrorKind) -> bool
+    ensures { IsTrue result ↔ ((kind ≡ ErrorKind.WouldBlock) ⊎ (kind ≡ ErrorKind.Interrupted)) }
+{
     matches!(kind, ErrorKind::WouldBlock | ErrorKind::Interrupted)
 }
 
