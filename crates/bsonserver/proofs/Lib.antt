@@ -1,4 +1,2 @@
-pub mod Texts
-pub mod Steps
 pub mod ParseLemmas
 pub mod Shows

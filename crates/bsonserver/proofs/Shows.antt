@@ -5,8 +5,8 @@ use Rattle.std.specs.Io.KnownBytes.{Appends, Keeps}
 use Rattle.script_rules.specs.{RuleView}
 use Rattle.bsonserver.specs.Runs.{AreRead, Connected, EndsSo, GoesOnServing, IsEnough, IsRefused, IsRun, ShowsServing, script_file}
 use Rattle.bsonserver.specs.declared.choice.Choice.{Choice}
-use Rattle.bsonserver.specs.declared.stop.ServingEnd.{ServingEnd}
-use Rattle.bsonserver.specs.declared.stop.ServingEnd.TheVariants as runs
+use Rattle.bsonserver.specs.declared.ending.ServingEnd.{ServingEnd}
+use Rattle.bsonserver.specs.declared.ending.ServingEnd.TheVariants as runs
 
 nothing_more : (a : Option (List ℕ)) → Appends a a []
 nothing_more None = tt

@@ -5,10 +5,10 @@ use Rattle.clap.specs.declared.error.kind.ErrorKind.{ErrorKind}
 use Rattle.clap.specs.declared.error.kind.ErrorKind.TheVariants as kind
 use Rattle.command_words.specs.{words_status}
 use Rattle.bsonserver.specs.declared.choice.Choice.{Choice}
-use Rattle.bsonserver.specs.declared.stop.ServingEnd.{ServingEnd}
-use Rattle.bsonserver.specs.declared.stop.ServingEnd.TheVariants.{Served, Script, ScriptFile}
-use Rattle.bsonserver.specs.declared.stop.ServingEnd.TheVariants.{Stopped}
-use Rattle.bsonserver.specs.declared.stop.Stop.TheVariants.{OutOfMemory}
+use Rattle.bsonserver.specs.declared.ending.ServingEnd.{ServingEnd}
+use Rattle.bsonserver.specs.declared.ending.ServingEnd.TheVariants.{Served, Script, ScriptFile}
+use Rattle.bsonserver.specs.declared.ending.ServingEnd.TheVariants.{Stopped}
+use Rattle.server_core.specs.declared.stop.Stop.TheVariants.{OutOfMemory}
 use Rattle.bsonserver.specs.Choices.{IsChosen}
 use Rattle.bsonserver.specs.CommandLine.{command_line}
 use Rattle.bsonserver.specs.Runs.{EndsSo}

@@ -1,6 +1,4 @@
-pub mod Transcript
-pub mod Replies
-pub mod Serving
+pub mod Turning
 pub mod CommandLine
 pub mod Choices
 pub mod Runs

@@ -12,16 +12,16 @@ use Rattle.test_store.specs.{Answered, StopsAt, empty_store, store_of}
 use Rattle.script_rules.specs.{IsAnswered, IsStopped, RuleView}
 use Rattle.script_rules.specs.declared.scripted.Scripted.{Scripted}
 use Rattle.test_store.specs.declared.store.Store.{Store}
-use Rattle.wire_serve.specs.{Tells, tells}
+use Rattle.wire_serve.specs.{Tells, conns_seen, tells}
 use Rattle.wire_serve.specs.declared.gated_link.GatedLink.{GatedLink}
 use Rattle.wire_stream.specs.declared.tcp_link.TcpLink.{TcpLink}
 use Rattle.bsonserver.specs.declared.choice.Choice.{Choice}
 use Rattle.bsonserver.specs.declared.edge_triggered.EdgeTriggered.{EdgeTriggered}
-use Rattle.bsonserver.specs.declared.stop.ServingEnd.{ServingEnd}
-use Rattle.bsonserver.specs.declared.stop.ServingEnd.TheVariants as runs
-use Rattle.bsonserver.specs.declared.serving.Serving.{Serving}
-use Rattle.bsonserver.specs.declared.stop.Stop.TheVariants as stops
-use Rattle.bsonserver.specs.Serving.{IsServing, ServesOn}
+use Rattle.bsonserver.specs.declared.ending.ServingEnd.{ServingEnd}
+use Rattle.bsonserver.specs.declared.ending.ServingEnd.TheVariants as runs
+use Rattle.server_core.specs.declared.serving.Serving.{Serving}
+use Rattle.server_core.specs.declared.stop.Stop.TheVariants as stops
+use Rattle.server_core.specs.{IsServing, IsTranscript, ServesOn}
 
 -- the last line, which says how many connections were served
 abbrev pub served_line : ℕ → List ℕ
@@ -31,8 +31,8 @@ served_line count = codes "served " ++ (decimal count ++ codes "\n")
 -- carries.
 abbrev pub socket_tells : Tells (GatedLink (TcpLink (EdgeTriggered TcpStream)))
 socket_tells =
-    tells (λ valve. None) (λ valve. None) (λ valve. valve.link.ends) (λ valve. valve.link.waits)
-    (λ valve. valve.failures)
+    tells (λ gated. None) (λ gated. None) (λ gated. gated.link.ends) (λ gated. gated.link.waits)
+    (λ gated. gated.failures)
 
 -- the connections of the program
 abbrev pub Connected : Type 0
@@ -49,13 +49,13 @@ shown false text = text
 abbrev pub StandsAt : Scripted Store → List RuleView → Connected → (ended : ℕ) → (text : List ℕ)
     → Type 0
 StandsAt first replies s ended text =
-    IsServing (IsAnswered Answered) (IsStopped StopsAt) socket_tells (λ valve. valve.gate) first
+    IsServing (IsAnswered Answered) (IsStopped StopsAt) socket_tells (λ gated. gated.gate) first
     replies s ended text
 
 -- The server served on between these two moments, and wrote what it did.
 abbrev pub GoesOnServing : (old new : Connected) → Option (List ℕ) → Option (List ℕ) → Type 0
 GoesOnServing old new before after =
-    ServesOn (IsAnswered Answered) (IsStopped StopsAt) socket_tells (λ valve. valve.gate) old new
+    ServesOn (IsAnswered Answered) (IsStopped StopsAt) socket_tells (λ gated. gated.gate) old new
     before after
 
 -- the same, and wrote what is shown of what it did
@@ -83,7 +83,7 @@ IsEnough choice n = (choice.connections ≤ n) ⊎ (choice.until_stdin_closes �
 -- The server listened somewhere and wrote where. From when its script had these rules, those that
 -- say what becomes of replies were these, and it held no documents, it served until enough
 -- connections had ended, of which it counts no more than were asked for, and wrote what is shown of
--- what it did.
+-- the transcript of what it did.
 pub record HasServed (choice : Choice) (rules replies : List RuleView) (count : ℕ)
     (before after : Option (List ℕ)) : Type 0 where
   pub first : Scripted Store
@@ -93,6 +93,8 @@ pub record HasServed (choice : Choice) (rules replies : List RuleView) (count : 
   pub ended : ℕ
   pub text : List ℕ
   pub serving : StandsAt first replies connections ended text
+  pub transcript : IsTranscript (IsAnswered Answered) (IsStopped StopsAt) socket_tells first
+      (conns_seen connections.conns.slots connections.conns.logged connections.conns.next) text
   pub enough : IsEnough choice ended
   pub counted : count ≡ min ended choice.connections
   pub local : SocketAddr

@@ -1,18 +1,18 @@
 //! Serves many connections in one thread.
 
-ghost use Rattle.std.specs.Prelude.{OnOk};
+ghost use Rattle.std.specs.Prelude.{◌≡◌, OnOk};
+ghost use Rattle.slab.specs.Slab.{get};
 ghost use Rattle.bsonserver.specs.Runs.{GoesOnServing, HasBegun};
+ghost use Rattle.bsonserver.specs.Turning.{held_for, if_over};
+ghost use Rattle.server_core.specs.{reply_flow};
 
 use crate::edge_triggered::EdgeTriggered;
 use crate::event_loop::{EventLoop, ROOM};
-use crate::output::Output;
-use crate::reply_rules::ReplyRules;
 use crate::scripts::Scripts;
-use crate::serving::{ANSWER_STEPS, STEPS, Serving};
-use crate::stop::Stop;
 use mio::net::TcpStream;
 use mio::{Events, Token};
 use script_rules::{Flow, Scripted};
+use server_core::{ANSWER_STEPS, Output, ReplyRules, STEPS, Serving, Stop};
 use sockets::{ACCEPTS, LISTENER, STDIN};
 use std::alloc::Global;
 use std::io::Write;
@@ -21,8 +21,11 @@ use test_store::Store;
 use wire_serve::{GatedLink, Turned};
 use wire_stream::TcpLink;
 
+/// The link of a connection: a gate before a socket.
+pub type Socket = GatedLink<TcpLink<EdgeTriggered<TcpStream>>>;
+
 /// The connections of the program: over sockets, by the rules of a script before a store.
-pub type Connected = Serving<GatedLink<TcpLink<EdgeTriggered<TcpStream>>>, Scripted<Store>>;
+pub type Connected = Serving<Socket, Scripted<Store>>;
 
 /// Begins without connections, with the rules of the script before a store without documents. Those
 /// of `replies`, which are the same, say what becomes of replies.
@@ -37,7 +40,9 @@ pub fn begin(alloc: Global, scripts: Scripts) -> Connected
 }
 
 /// Returns what a turn came to, if the connection is over.
-fn if_over(turned: Option<Turned>) -> Option<Turned> {
+fn if_over(turned: Option<Turned>) -> Option<Turned>
+    ensures { result ≡ if_over turned }
+{
     match turned {
         Some(Turned::Over(leave)) => Some(Turned::Over(leave)),
         Some(Turned::Again | Turned::Waits) | None => None,
@@ -79,7 +84,10 @@ fn accept_some<W: Write>(
 
 /// Returns for how many milliseconds the reply is held that a connection put out in its last turn,
 /// which came to `turned`, if it goes on and put out one that is to be held.
-fn held(serving: &Connected, key: usize, turned: Option<Turned>) -> Option<u64> {
+fn held(serving: &Connected, key: usize, turned: Option<Turned>) -> Option<u64>
+    ensures { result ≡ held_for turned
+        (reply_flow (get serving.now.conns.slots key) serving.now.replies.flow) }
+{
     match turned {
         Some(Turned::Again | Turned::Waits) => match serving.flow(key) {
             Some(Flow::Held(millis)) => Some(millis),

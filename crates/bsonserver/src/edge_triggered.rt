@@ -4,6 +4,9 @@
 //! So in a turn that an event began, a read that didn't fill its buffer left nothing, unless the event
 //! told that the other side sends no more: that was told with the bytes before it, and isn't told again.
 
+ghost use Rattle.std.specs.Prelude.{◌≡◌, IfOk, None, Some};
+ghost use Rattle.bsonserver.specs.Turning.{IsNext};
+
 use mio::event::Event;
 use std::alloc::{AllocError, Global};
 use std::cell::Cell;
@@ -27,7 +30,9 @@ impl Turns {
     /// # Errors
     ///
     /// Returns `AllocError` if memory runs out.
-    pub fn new(alloc: Global) -> Result<Turns, AllocError> {
+    pub fn new(alloc: Global) -> Result<Turns, AllocError>
+        ensures { IfOk result (λ t. t.told ≡ Some 0) }
+    {
         let current = Rc::new(alloc, Cell::new(None))?;
         Ok(Turns {
             told: Some(0),
@@ -36,8 +41,13 @@ impl Turns {
     }
 
     /// Counts that the system told events.
-    pub fn count(&mut self) {
-        self.told = self.told.and_then(|told| told.checked_add(1));
+    pub fn count(&mut self)
+        ensures { IsNext self.old.told self.new.told }
+    {
+        self.told = match self.told {
+            Some(told) => told.checked_add(1),
+            None => None,
+        };
     }
 
     /// Begins a turn that goes on where one before it stopped.
@@ -59,7 +69,9 @@ impl Turns {
     /// # Errors
     ///
     /// Returns `AllocError` if there are more streams than are counted.
-    pub fn edge_triggered<S: Drop>(&self, stream: S) -> Result<EdgeTriggered<S>, AllocError> {
+    pub fn edge_triggered<S: Drop>(&self, stream: S) -> Result<EdgeTriggered<S>, AllocError>
+        ensures { IfOk result (λ e. (e.stream ≡ stream) × (e.emptied ≡ None)) }
+    {
         let turn = self.current.clone()?;
         Ok(EdgeTriggered {
             stream,

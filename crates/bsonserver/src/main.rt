@@ -14,34 +14,31 @@
 //! failed, and 4 if memory ran out. Where no connection can be accepted, as where no open file is
 //! left, standard error says so, and it tries again until one can.
 //!
-//! Uses test_store, test_script, command_parts, wire_serve, wire_text, sockets and command_words.
-//! Read first: `serving`, `connections` and then `run`.
+//! Uses server_core, test_store, test_script, sockets and command_words. Read first: `connections`,
+//! and then `run`.
 #![tactic(auto)]
 
 mod choice;
 mod command_line;
 mod connections;
 mod edge_triggered;
+mod ending;
 mod event_loop;
-mod output;
-mod reply_rules;
 mod run;
 mod scripts;
-mod serving;
 mod sources;
-mod stop;
-mod transcript;
 
 ghost use Rattle.std.specs.Prelude.{◌≡◌, map};
 ghost use Rattle.bsonserver.specs.ExitStatus.{IsStatusFor, IsStatusOf, exit_status};
 
 use choice::{Choice, choose};
 use command_words::{IN_OUT, MEMORY, Program, USAGE, texts};
+use ending::ServingEnd;
 use run::run;
+use server_core::Stop;
 use std::io;
 use std::io::BufWriter;
 use std::process::ExitCode;
-use stop::{ServingEnd, Stop};
 
 /// This program.
 const PROGRAM: Program<'static> = Program { name: "bsonserver" };

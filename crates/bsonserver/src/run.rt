@@ -9,13 +9,15 @@ ghost use Rattle.sockets.specs.{listening_line};
 ghost use Rattle.script_rules.specs.{RuleView};
 
 use crate::choice::Choice;
-use crate::connections::{Connected, begin};
+use crate::connections::{Connected, Socket, begin};
+use crate::ending::ServingEnd;
 use crate::event_loop::{EventLoop, Pending};
-use crate::output::Output;
 use crate::scripts::{Scripts, read_scripts};
 use crate::sources::Sources;
-use crate::stop::{ServingEnd, Stop};
 use mio::Events;
+use script_rules::Scripted;
+use server_core::laws::what_is_written_was_done;
+use server_core::{Output, Stop};
 use sockets::{Acceptor, EVENTS, LISTENER, bind, tell_listening, tell_port, watch_stdin};
 use std::alloc::Global;
 use std::io;
@@ -23,6 +25,7 @@ use std::io::{BufRead, ErrorKind, Input, Write};
 use std::net::{Net, SocketAddr};
 use std::rt::Files;
 use std::time::Clock;
+use test_store::Store;
 
 /// Listens where the words say, and writes to `out` where that is, and the port to its file.
 fn listen<R: Net + Files, W: Write>(
@@ -132,6 +135,7 @@ fn serve_lent<R: Net + Files + Input + Clock + Eprint, W: Output>(
 {
     let mut sources = begin_at(rt, alloc, choice, out)?;
     serve_shown(rt, &mut sources, serving, choice, out)?;
+    what_is_written_was_done::<Socket, Scripted<Store>>();
     Ok(told_count(serving.ended(), choice.connections))
 }
 

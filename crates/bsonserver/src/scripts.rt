@@ -4,8 +4,9 @@ ghost use Rattle.std.specs.Prelude.{IfErr, IfOk, option_map};
 ghost use Rattle.test_script.specs.{FailsAt, IsScript};
 ghost use Rattle.bsonserver.specs.Runs.{AreRead, IsRefused};
 
-use crate::stop::{ServingEnd, Stop, wants_memory};
+use crate::ending::ServingEnd;
 use script_rules::Script;
+use server_core::{Stop, wants_memory};
 use std::alloc::Global;
 use std::fs;
 use std::rt::Files;

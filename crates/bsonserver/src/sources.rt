@@ -1,13 +1,12 @@
 //! Where the events of a server come from: sockets, and standard input.
 
-ghost use Rattle.std.specs.Prelude.{OnOk};
+ghost use Rattle.std.specs.Prelude.{◌≡◌, None, OnOk, false};
 ghost use Rattle.bsonserver.specs.Runs.{GoesOnServing};
 
 use crate::connections::{Connected, serve_some};
 use crate::event_loop::EventLoop;
-use crate::output::Output;
-use crate::stop::Stop;
 use mio::Events;
+use server_core::{Output, Stop};
 use sockets::Stdin;
 use std::alloc::Global;
 use std::io::BufRead;
@@ -23,7 +22,11 @@ pub struct Sources<I> {
 
 impl<I: BufRead + Drop> Sources<I> {
     /// Begins before the first event.
-    pub fn new(events: Events<Global>, event_loop: EventLoop, stdin: Stdin<I>) -> Sources<I> {
+    pub fn new(events: Events<Global>, event_loop: EventLoop, stdin: Stdin<I>) -> Sources<I>
+        ensures events { result.events ≡ events }
+        ensures event_loop { result.event_loop ≡ event_loop }
+        ensures stdin { result.stdin ≡ stdin }
+    {
         Sources {
             events,
             event_loop,
@@ -32,7 +35,9 @@ impl<I: BufRead + Drop> Sources<I> {
     }
 
     /// Returns true if standard input was waited for, and has ended.
-    pub fn has_input_ended(&self) -> bool {
+    pub fn has_input_ended(&self) -> bool
+        ensures unwatched { self.now.stdin.reader ≡ None → result ≡ false }
+    {
         self.stdin.has_ended()
     }
 

@@ -1,4 +1,4 @@
-use Rattle.bsonserver.proofs.Steps.{on_any}
+use Rattle.server_core.proofs.Lemmas.{on_any}
 use Rattle.bsonserver.proofs.connections.take_whole.Goals as goal
 
 pub returns : goal.returns

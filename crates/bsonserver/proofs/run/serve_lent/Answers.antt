@@ -16,6 +16,7 @@ returns g c = λ rules replies begun.
       ended = went.0;
       text = went.1;
       serving = went.2;
+      transcript = c.what_is_written_was_done.ensures begun.first replies went.0 _ _ _ _ went.1 went.2.serves;
       enough = enough_of c.args.choice went.0 c.serve_shown.new.serving.ended went.2.counts c.in_ok-serve_shown.ensures.enough;
       counted = c.told_count.ensures.least
           ∙ (ap (λ e. min e c.args.choice.connections) (c.ended.ensures ∙ went.2.counts) ∙ min_under went.0 c.args.choice.connections c.told_count.ensures.range);
