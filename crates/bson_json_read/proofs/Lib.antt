@@ -1,4 +1,5 @@
 pub mod Alike
+pub mod CauseTexts
 pub mod Codes
 pub mod DecimalBack
 pub mod DecimalBytes
@@ -6,6 +7,7 @@ pub mod DocumentBack
 pub mod Elements
 pub mod Ends
 pub mod FormNames
+pub mod FormRows
 pub mod Integers
 pub mod Lanes
 pub mod Leaves

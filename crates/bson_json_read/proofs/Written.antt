@@ -20,10 +20,11 @@ use Rattle.bson_json_read.specs.Forms.{first_form, form_name, form_named}
 use Rattle.bson_json_read.specs.Iso.{iso_of}
 use Rattle.bson_json_read.specs.Numbers.{double_of_text, integer_of}
 use Rattle.bson_json_read.specs.Reads.{Read, and_map, or_refused}
-use Rattle.bson_json_read.specs.Table.{binary_texts, binary_with, data_value, date_value, decimal_value, double_value, form_value, int32_value, int64_value, object_id_value, string_value}
+use Rattle.bson_json_read.specs.Table.{binary_texts, binary_with, data_value, date_value, form_value, leaf_text, member_value, string_value}
 use Rattle.bson_json_read.specs.Texts.{document_as, document_in, json_in}
 use Rattle.bson_json_read.specs.Values.{Pair, array_of, document_of, document_read, form_read, object_as, value_read}
 use Rattle.bson_json_read.proofs.FormNames.{named}
+use Rattle.bson_json_read.proofs.FormRows.{leaf_member}
 use Rattle.bson_json_read.proofs.Walking.{value_at, document_at}
 use Rattle.bson_json_read.specs.Direct.{ReadsForm, ReadsItems, ReadsMembers, ReadsValue}
 use Rattle.bson_elem.specs.Spelling as spelling
@@ -62,13 +63,32 @@ form_put room name key f j v old new h is bytes =
       bytes = bytes;
     }
 
+-- the value of the one member
+form_member : (f : Form) (j : Json) → form_value f (member (form_name f) j no_members) ≡ member_value f j
+form_member forms.ObjectId j = refl
+form_member forms.Symbol j = refl
+form_member forms.Int32 j = refl
+form_member forms.Int64 j = refl
+form_member forms.Double j = refl
+form_member forms.Decimal128 j = refl
+form_member forms.Binary j = refl
+form_member forms.Uuid j = refl
+form_member forms.Code j = refl
+form_member forms.Timestamp j = refl
+form_member forms.Regex j = refl
+form_member forms.DbPointer j = refl
+form_member forms.DateTime j = refl
+form_member forms.MinKey j = refl
+form_member forms.MaxKey j = refl
+form_member forms.Undefined j = refl
+
 pub text_form : (form : Form) (name : List ℕ) (tokens left : List Token) (old new t : List ℕ) (v : TreeValue) → tokens ≡ Token.string t ∷ Token.end_object ∷ left
-    → form_value form (member (form_name form) (string t) no_members) ≡ Some v → new ≡ old ++ element_bytes name v → ReadsForm form name tokens left old new
+    → leaf_text form t ≡ Some v → new ≡ old ++ element_bytes name v → ReadsForm form name tokens left old new
 text_form form name tokens left old new t v is value bytes = record {
   json = string t;
   begins = is;
   deep = omega arith;
-  put = λ key room h. form_put room name key form (string t) v old new h value bytes;
+  put = λ key room h. form_put room name key form (string t) v old new h (form_member form (string t) ∙ leaf_member form t v value) bytes;
 }
 
 pub long_date : (name : List ℕ) (tokens left : List Token) (old new t : List ℕ) (v : TreeValue)
@@ -93,25 +113,6 @@ binary_form name tokens left old new s t v is value bytes = record {
 
 pub texts_value : (s t bytes : List ℕ) (subtype : ℕ) → subtype_of t ≡ Some subtype → base64_of s ≡ Some bytes → binary_texts (s, t) ≡ Some (data_value subtype bytes)
 texts_value s t bytes subtype a b = ap (option_and_then (binary_with s)) a ∙ ap (option_map (data_value subtype)) b
-
--- the rows of the table that a text alone tells
-pub id_row : (t : List ℕ) → form_value forms.ObjectId (member (form_name forms.ObjectId) (string t) no_members) ≡ option_map object_id_value (hex_of 12 t)
-id_row t = refl
-
-pub int32_row : (t : List ℕ) → form_value forms.Int32 (member (form_name forms.Int32) (string t) no_members) ≡ option_map int32_value (integer_of (2 ^ 31) t)
-int32_row t = refl
-
-pub int64_row : (t : List ℕ) → form_value forms.Int64 (member (form_name forms.Int64) (string t) no_members) ≡ option_map int64_value (integer_of (2 ^ 63) t)
-int64_row t = refl
-
-pub double_row : (t : List ℕ) → form_value forms.Double (member (form_name forms.Double) (string t) no_members) ≡ option_map double_value (double_of_text t)
-double_row t = refl
-
-pub decimal_row : (t : List ℕ) → form_value forms.Decimal128 (member (form_name forms.Decimal128) (string t) no_members) ≡ option_map decimal_value (decimal128_of t)
-decimal_row t = refl
-
-pub iso_row : (t : List ℕ) → form_value forms.DateTime (member (form_name forms.DateTime) (string t) no_members) ≡ option_map date_value (iso_of t)
-iso_row t = refl
 
 -- ---- values
 

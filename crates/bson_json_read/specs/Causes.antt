@@ -16,16 +16,21 @@ cause_number causes.NumberTooLarge = 6
 cause_number (causes.WrongForm form) = 7
 cause_number causes.OutOfMemory = 8
 
+-- what a cause displays as, without the name of a form
+abbrev pub cause_words : Cause → List ℕ
+cause_words causes.NotJson = codes "the text is no JSON"
+cause_words causes.NotAnObject = codes "the text is no object"
+cause_words causes.RepeatedName = codes "a name is repeated"
+cause_words causes.ZeroInName = codes "a name has a 00 in it"
+cause_words causes.Depth = codes "a document or an array is too deep"
+cause_words causes.NumberTooLarge = codes "a number is too large"
+cause_words (causes.WrongForm form) = codes "an object is not of the form "
+cause_words causes.OutOfMemory = codes "out of memory"
+
 -- what a cause displays as
 abbrev pub cause_text : Cause → List ℕ
-cause_text causes.NotJson = codes "the text is no JSON"
-cause_text causes.NotAnObject = codes "the text is no object"
-cause_text causes.RepeatedName = codes "a name is repeated"
-cause_text causes.ZeroInName = codes "a name has a 00 in it"
-cause_text causes.Depth = codes "a document or an array is too deep"
-cause_text causes.NumberTooLarge = codes "a number is too large"
 cause_text (causes.WrongForm form) = codes "an object is not of the form " ++ form_name form
-cause_text causes.OutOfMemory = codes "out of memory"
+cause_text cause = cause_words cause
 
 abbrev pub shown_cause : Cause → Option (List ℕ)
 shown_cause cause = Some (cause_text cause)

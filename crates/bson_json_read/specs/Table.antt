@@ -16,7 +16,7 @@ use Rattle.bson_json_read.specs.declared.form.Form.{Form}
 use Rattle.bson_json_read.specs.declared.form.Form.TheVariants as forms
 use Rattle.bson_json_read.specs.Bytes.{base64_of, hex_of, subtype_of, uuid_of}
 use Rattle.bson_json_read.specs.DecimalText.{decimal128_of}
-use Rattle.bson_json_read.specs.Forms.{both, sole}
+use Rattle.bson_json_read.specs.Forms.{both, form_name, sole}
 use Rattle.bson_json_read.specs.Iso.{iso_of}
 use Rattle.bson_json_read.specs.Numbers.{double_of_text, integer_of, unsigned_of}
 
@@ -25,10 +25,6 @@ use Rattle.bson_json_read.specs.Numbers.{double_of_text, integer_of, unsigned_of
 -- the text of this name, if no other member is there
 abbrev pub sole_text : List ℕ → json.Members → Option (List ℕ)
 sole_text name ms = option_and_then as_str (sole name ms)
-
--- the members of the object of this name, if no other member is there
-abbrev pub sole_object : List ℕ → json.Members → Option json.Members
-sole_object name ms = option_and_then as_object (sole name ms)
 
 -- two texts, where both are there
 abbrev pub beside : {A : Type 0} → A → List ℕ → A × List ℕ
@@ -137,13 +133,10 @@ iso_or_long None inner = option_and_then long_of inner
 abbrev pub date_in : json.Json → Option ℤ
 date_in j = iso_or_long (as_str j) (as_object j)
 
--- the number 1 alone, and `true`
+-- the number 1, and `true`
 abbrev pub is_one : Option (List ℕ) → Bool
 is_one (Some text) = bytes_eq text (codes "1")
 is_one None = false
-
-abbrev pub is_one_alone : List ℕ → json.Members → Bool
-is_one_alone name ms = is_one (option_and_then as_number (sole name ms))
 
 abbrev pub key_value : Kind → Bool → Option TreeValue
 key_value k there = if there then Some (leaf_value k (raw_value [])) else None
@@ -154,32 +147,34 @@ if_true false = None
 
 -- ---- the table: one row for each form
 
+-- the value of a text, where it takes no memory
+abbrev pub leaf_text : Form → List ℕ → Option TreeValue
+leaf_text forms.ObjectId t = option_map object_id_value (hex_of 12 t)
+leaf_text forms.Int32 t = option_map int32_value (integer_of (2 ^ 31) t)
+leaf_text forms.Int64 t = option_map int64_value (integer_of (2 ^ 63) t)
+leaf_text forms.Double t = option_map double_value (double_of_text t)
+leaf_text forms.Decimal128 t = option_map decimal_value (decimal128_of t)
+leaf_text forms.DateTime t = option_map date_value (iso_of t)
+leaf_text _ t = None
+
+-- the value of the one member of an object of this form
+abbrev pub member_value : Form → json.Json → Option TreeValue
+member_value forms.ObjectId j = option_and_then (leaf_text forms.ObjectId) (as_str j)
+member_value forms.Symbol j = option_map symbol_value (as_str j)
+member_value forms.Int32 j = option_and_then (leaf_text forms.Int32) (as_str j)
+member_value forms.Int64 j = option_and_then (leaf_text forms.Int64) (as_str j)
+member_value forms.Double j = option_and_then (leaf_text forms.Double) (as_str j)
+member_value forms.Decimal128 j = option_and_then (leaf_text forms.Decimal128) (as_str j)
+member_value forms.Binary j = option_and_then binary_of (as_object j)
+member_value forms.Uuid j = option_map uuid_value (option_and_then uuid_of (as_str j))
+member_value forms.Code j = option_map code_value (as_str j)
+member_value forms.Timestamp j = option_and_then timestamp_of (as_object j)
+member_value forms.Regex j = option_and_then regex_of (as_object j)
+member_value forms.DbPointer j = option_and_then pointer_of (as_object j)
+member_value forms.DateTime j = option_map date_value (date_in j)
+member_value forms.MinKey j = key_value kinds.MinKey (is_one (as_number j))
+member_value forms.MaxKey j = key_value kinds.MaxKey (is_one (as_number j))
+member_value forms.Undefined j = option_and_then if_true (as_bool j)
+
 abbrev pub form_value : Form → json.Members → Option TreeValue
-form_value forms.ObjectId ms = option_map object_id_value (id_of ms)
-form_value forms.Symbol ms = option_map symbol_value (sole_text (codes "$symbol") ms)
-form_value forms.Int32 ms =
-    option_map int32_value
-    (option_and_then (integer_of (2 ^ 31)) (sole_text (codes "$numberInt") ms))
-form_value forms.Int64 ms = option_map int64_value (long_of ms)
-form_value forms.Double ms =
-    option_map double_value
-    (option_and_then double_of_text (sole_text (codes "$numberDouble") ms))
-form_value forms.Decimal128 ms =
-    option_map decimal_value
-    (option_and_then decimal128_of (sole_text (codes "$numberDecimal") ms))
-form_value forms.Binary ms = option_and_then binary_of (sole_object (codes "$binary") ms)
-form_value forms.Uuid ms =
-    option_map uuid_value (option_and_then uuid_of (sole_text (codes "$uuid") ms))
-form_value forms.Code ms = option_map code_value (sole_text (codes "$code") ms)
-form_value forms.Timestamp ms =
-    option_and_then timestamp_of (sole_object (codes "$timestamp") ms)
-form_value forms.Regex ms =
-    option_and_then regex_of (sole_object (codes "$regularExpression") ms)
-form_value forms.DbPointer ms =
-    option_and_then pointer_of (sole_object (codes "$dbPointer") ms)
-form_value forms.DateTime ms =
-    option_map date_value (option_and_then date_in (sole (codes "$date") ms))
-form_value forms.MinKey ms = key_value kinds.MinKey (is_one_alone (codes "$minKey") ms)
-form_value forms.MaxKey ms = key_value kinds.MaxKey (is_one_alone (codes "$maxKey") ms)
-form_value forms.Undefined ms =
-    option_and_then if_true (option_and_then as_bool (sole (codes "$undefined") ms))
+form_value form ms = option_and_then (member_value form) (sole (form_name form) ms)

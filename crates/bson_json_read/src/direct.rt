@@ -1,15 +1,14 @@
 //! Writes documents straight from the tokens of their JSON, where that takes one look at each: no
 //! name stands twice in an object, and each object of a form has the members in the order in which
-//! they are usually written. Each function returns `None` for anything else, which says nothing of
+//! they are usually written. Each function returns false for anything else, which says nothing of
 //! the text.
 //!
 //! The tokens of a text whose strings have no escape are read where they stand, and those of
 //! another one from the kit's tape.
 
-ghost use Rattle.std.specs.Prelude.{◌≡◌, ◌<◌, ◌∷◌, ◌+◌, ◌++◌, ◌^◌, [], ℕ, List, IfSome, None, Ok};
-ghost use Rattle.std.specs.Prelude.{OnSome, Some, false, option_map, vec_len};
+ghost use Rattle.std.specs.Prelude.{◌≡◌, ◌<◌, ◌∷◌, ◌+◌, ◌++◌, ◌^◌, [], ℕ, List, IfSome};
+ghost use Rattle.std.specs.Prelude.{IsTrue, None, Ok, Some, false, option_map, vec_len};
 ghost use Rattle.std.specs.Fmt.{decimal};
-ghost use Rattle.json.specs.Json.{member, no_members, string};
 ghost use Rattle.json.specs.Lex.{tokens};
 ghost use Rattle.json.specs.Reads.{token_of};
 ghost use Rattle.json.specs.Token as token;
@@ -19,26 +18,25 @@ ghost use Rattle.bson_doc.specs.Unwritable as unwritable;
 ghost use Rattle.bson_doc.specs.Values.{element_bytes};
 ghost use Rattle.bson_json_read.specs.Direct.{IsDocumentPut, PutsLeaf, ReadsForm, ReadsItems};
 ghost use Rattle.bson_json_read.specs.Direct.{ReadsMembers, ReadsValue};
-ghost use Rattle.bson_json_read.specs.Forms.{form_name, form_named};
+ghost use Rattle.bson_json_read.specs.Forms.{form_named};
 ghost use Rattle.bson_json_read.specs.Leaf.{leaf_of};
 ghost use Rattle.bson_json_read.specs.Numbers.{integer_of};
 ghost use Rattle.bson_json_read.specs.Seen.{IsSeen, Keeps, code_of};
 ghost use Rattle.bson_json_read.specs.Sources.{left_of};
-ghost use Rattle.bson_json_read.specs.Table.{binary_texts, date_value, form_value};
+ghost use Rattle.bson_json_read.specs.Table.{binary_texts, date_value};
 ghost use Rattle.bson_json_read.specs.Texts.{document_in};
 ghost use Rattle.bson_json_read.specs.Values.{number_read};
 
 use crate::bracket::Bracket;
-use crate::bytes::{read_base64, read_object_id, read_subtype};
+use crate::bytes::{read_base64, read_subtype};
 use crate::cursor::Cursor;
-use crate::decimal::decimal128_from_text;
 use crate::element::{Leaf, begin, finish, put_binary, put_head, put_leaf, put_string};
 use crate::form::{Form, form_of_name};
-use crate::iso::read_iso;
 use crate::nodes::Nodes;
-use crate::number::{read_double, read_finite, read_i32, read_i64};
+use crate::number::{read_finite, read_i32, read_i64};
 use crate::seen::{Seen, code_of};
 use crate::source::Source;
+use crate::wrapped::text_leaf;
 use crate::zero::has_zero;
 use bson_elem::Kind;
 use bson_raw::double_to_bytes;
@@ -47,23 +45,6 @@ use json::{Scratch, Tape, Token};
 use memchr::memchr;
 use std::alloc::Global;
 
-/// Returns the value that a text stands for in an object of this form.
-#[tactic(auto, using(crate::proofs::Written::id_row, crate::proofs::Written::int32_row, crate::proofs::Written::int64_row, crate::proofs::Written::double_row, crate::proofs::Written::decimal_row, crate::proofs::Written::iso_row))]
-fn text_value(form: Form, text: &str) -> Option<Leaf>
-    ensures { IfSome result (λ l. form_value form
-        (member (form_name form) (string text.now) no_members) ≡ Some (leaf_of l)) }
-{
-    match form {
-        Form::ObjectId => Some(Leaf::ObjectId(read_object_id(text)?)),
-        Form::Int32 => Some(Leaf::Int32(read_i32(text)?)),
-        Form::Int64 => Some(Leaf::Int64(read_i64(text)?)),
-        Form::Double => Some(Leaf::Double(double_to_bytes(read_double(text)?))),
-        Form::Decimal128 => Some(Leaf::Decimal128(decimal128_from_text(text)?)),
-        Form::DateTime => Some(Leaf::DateTime(read_iso(text)?)),
-        _ => None,
-    }
-}
-
 /// Appends the value of an object of this form, whose name was taken, if the value is a text.
 #[tactic(auto, using(crate::proofs::Written::text_form))]
 fn write_text_form<'t, 'a>(
@@ -71,15 +52,17 @@ fn write_text_form<'t, 'a>(
     name: &str,
     left: &mut Source<'t, 'a>,
     out: &mut Vec<u8>,
-) -> Option<()>
-    ensures { OnSome result (ReadsForm form name.now (left_of left.old) (left_of left.new)
-        out.old.items out.new.items) }
+) -> bool
+    ensures { IsTrue result → ReadsForm form name.now (left_of left.old) (left_of left.new)
+        out.old.items out.new.items }
 {
-    let text = left.text()?;
-    if !left.take(Bracket::EndObject) {
-        return None;
+    let Some(text) = left.text() else {
+        return false;
+    };
+    match text_leaf(form, text) {
+        Some(leaf) => left.take(Bracket::EndObject) && put_leaf(name, leaf, out),
+        None => false,
     }
-    put_leaf(name, text_value(form, text)?, out)
 }
 
 /// Takes the next member, if it has this name and is a text.
@@ -106,39 +89,37 @@ fn date_of(text: &str) -> Option<Leaf>
 
 /// Appends the date of an object of `$date` whose value is one of `$numberLong`.
 #[tactic(auto, using(crate::proofs::Written::long_date))]
-fn write_long_date<'t, 'a>(name: &str, left: &mut Source<'t, 'a>, out: &mut Vec<u8>) -> Option<()>
-    ensures { OnSome result (ReadsForm Form.DateTime name.now (left_of left.old) (left_of left.new)
-        out.old.items out.new.items) }
+fn write_long_date<'t, 'a>(name: &str, left: &mut Source<'t, 'a>, out: &mut Vec<u8>) -> bool
+    ensures { IsTrue result → ReadsForm Form.DateTime name.now (left_of left.old) (left_of left.new)
+        out.old.items out.new.items }
 {
     if !left.take(Bracket::BeginObject) {
-        return None;
+        return false;
     }
-    let text = text_named("$numberLong", left)?;
-    if !left.take(Bracket::EndObject) {
-        return None;
+    let Some(text) = text_named("$numberLong", left) else {
+        return false;
+    };
+    if !left.take(Bracket::EndObject) || !left.take(Bracket::EndObject) {
+        return false;
     }
-    if !left.take(Bracket::EndObject) {
-        return None;
+    match date_of(text) {
+        Some(date) => put_leaf(name, date, out),
+        None => false,
     }
-    put_leaf(name, date_of(text)?, out)
 }
 
 /// Appends the binary of these texts under a name.
-fn put_binary_of(
-    alloc: Global,
-    name: &str,
-    base64: &str,
-    subtype: &str,
-    out: &mut Vec<u8>,
-) -> Option<()>
-    ensures { OnSome result ((v : TreeValue) × (binary_texts (base64.now, subtype.now) ≡ Some v)
-        × (out.new.items ≡ out.old.items ++ element_bytes name.now v)) }
+fn put_binary_of(alloc: Global, name: &str, base64: &str, subtype: &str, out: &mut Vec<u8>) -> bool
+    ensures { IsTrue result → (v : TreeValue) × (binary_texts (base64.now, subtype.now) ≡ Some v)
+        × (out.new.items ≡ out.old.items ++ element_bytes name.now v) }
 {
-    let subtype = read_subtype(subtype)?;
-    let Ok(Some(bytes)) = read_base64(alloc, base64) else {
-        return None;
+    let Some(subtype) = read_subtype(subtype) else {
+        return false;
     };
-    put_binary(name, subtype, &bytes, out)
+    match read_base64(alloc, base64) {
+        Ok(Some(bytes)) => put_binary(name, subtype, &bytes, out),
+        _ => false,
+    }
 }
 
 /// Appends the binary of an object of `$binary`.
@@ -147,20 +128,21 @@ fn write_binary<'t, 'a>(
     name: &str,
     left: &mut Source<'t, 'a>,
     out: &mut Vec<u8>,
-) -> Option<()>
-    ensures { OnSome result (ReadsForm Form.Binary name.now (left_of left.old) (left_of left.new)
-        out.old.items out.new.items) }
+) -> bool
+    ensures { IsTrue result → ReadsForm Form.Binary name.now (left_of left.old) (left_of left.new)
+        out.old.items out.new.items }
 {
     if !left.take(Bracket::BeginObject) {
-        return None;
+        return false;
     }
-    let base64 = text_named("base64", left)?;
-    let subtype = text_named("subType", left)?;
-    if !left.take(Bracket::EndObject) {
-        return None;
-    }
-    if !left.take(Bracket::EndObject) {
-        return None;
+    let Some(base64) = text_named("base64", left) else {
+        return false;
+    };
+    let Some(subtype) = text_named("subType", left) else {
+        return false;
+    };
+    if !left.take(Bracket::EndObject) || !left.take(Bracket::EndObject) {
+        return false;
     }
     put_binary_of(alloc, name, base64, subtype, out)
 }
@@ -172,9 +154,9 @@ fn write_form<'t, 'a>(
     name: &str,
     left: &mut Source<'t, 'a>,
     out: &mut Vec<u8>,
-) -> Option<()>
-    ensures { OnSome result (ReadsForm form name.now (left_of left.old) (left_of left.new)
-        out.old.items out.new.items) }
+) -> bool
+    ensures { IsTrue result → ReadsForm form name.now (left_of left.old) (left_of left.new)
+        out.old.items out.new.items }
 {
     match form {
         Form::Binary => write_binary(alloc, name, left, out),
@@ -194,34 +176,27 @@ fn write_member<'t, 'a>(
     room: u32,
     seen: &mut Seen,
     out: &mut Vec<u8>,
-) -> Option<()>
-    ensures free { OnSome result (unwritable.has_zero name.now ≡ false) }
-    ensures formless { OnSome result (form_named name.now ≡ None) }
-    ensures reads { OnSome result (ReadsValue room name.now (left_of left.old) (left_of left.new)
-        out.old.items out.new.items) }
-    ensures code { OnSome result (IsSeen seen.old seen.new (code_of offset name.now)) }
+) -> bool
+    ensures free { IsTrue result → unwritable.has_zero name.now ≡ false }
+    ensures formless { IsTrue result → form_named name.now ≡ None }
+    ensures reads { IsTrue result → ReadsValue room name.now (left_of left.old) (left_of left.new)
+        out.old.items out.new.items }
+    ensures code { IsTrue result → IsSeen seen.old seen.new (code_of offset name.now) }
 {
     if has_zero(name.as_bytes()) || form_of_name(name).is_some() {
-        return None;
+        return false;
     }
-    if !seen.put(code_of(offset, name)) {
-        return None;
-    }
-    write_value(alloc, name, left, room, seen, out)
+    seen.put(code_of(offset, name)) && write_value(alloc, name, left, room, seen, out)
 }
 
 /// Appends the document that has no pair. So many documents and arrays may be nested, with it.
-fn write_empty(room: u32, out: &mut Vec<u8>) -> Option<()>
-    ensures room { OnSome result (0 < room) }
-    ensures bytes { OnSome result (out.new.items ≡ out.old.items ++ document []) }
-    ensures short { OnSome result (vec_len out.new < vec_len out.old + 2 ^ 31) }
+fn write_empty(room: u32, out: &mut Vec<u8>) -> bool
+    ensures room { IsTrue result → 0 < room }
+    ensures bytes { IsTrue result → out.new.items ≡ out.old.items ++ document [] }
+    ensures short { IsTrue result → vec_len out.new < vec_len out.old + 2 ^ 31 }
 {
-    if room == 0 {
-        return None;
-    }
     let start = out.len();
-    begin(out)?;
-    finish(start, out)
+    room > 0 && begin(out) && finish(start, out)
 }
 
 /// Appends the document of the members that are next, of which the first has this name. So many
@@ -234,29 +209,33 @@ fn write_members<'t, 'a>(
     room: u32,
     seen: &mut Seen,
     out: &mut Vec<u8>,
-) -> Option<()>
-    ensures reads { OnSome result (ReadsMembers room (token.key first.now ∷ left_of left.old)
-        (left_of left.new) out.old.items out.new.items) }
-    ensures kept { OnSome result (Keeps seen.old seen.new) }
-    ensures short { OnSome result (vec_len out.new < vec_len out.old + 2 ^ 31) }
+) -> bool
+    ensures reads { IsTrue result → ReadsMembers room (token.key first.now ∷ left_of left.old)
+        (left_of left.new) out.old.items out.new.items }
+    ensures kept { IsTrue result → Keeps seen.old seen.new }
+    ensures short { IsTrue result → vec_len out.new < vec_len out.old + 2 ^ 31 }
 {
-    if room == 0 {
-        return None;
-    }
     let start = out.len();
     let offset = seen.offset(start);
-    begin(out)?;
+    if room == 0 || !begin(out) {
+        return false;
+    }
     let mut name = first;
     // A member takes a token at least.
     for _ in 0..left.most() {
-        write_member(alloc, offset, name, left, room - 1, seen, out)?;
+        if !write_member(alloc, offset, name, left, room - 1, seen, out) {
+            return false;
+        }
         if left.take(Bracket::EndObject) {
             return finish(start, out);
         }
         left.pass_comma();
-        name = left.name()?;
+        let Some(next) = left.name() else {
+            return false;
+        };
+        name = next;
     }
-    None
+    false
 }
 
 /// Appends the element of the item at `index` of an array.
@@ -269,10 +248,10 @@ fn write_item<'t, 'a>(
     room: u32,
     seen: &mut Seen,
     out: &mut Vec<u8>,
-) -> Option<()>
-    ensures reads { OnSome result (ReadsValue room (decimal index) (left_of left.old)
-        (left_of left.new) out.old.items out.new.items) }
-    ensures kept { OnSome result (Keeps seen.old seen.new) }
+) -> bool
+    ensures reads { IsTrue result → ReadsValue room (decimal index) (left_of left.old)
+        (left_of left.new) out.old.items out.new.items }
+    ensures kept { IsTrue result → Keeps seen.old seen.new }
 {
     let mut digits = Buffer::new();
     write_value(alloc, digits.format(index), left, room, seen, out)
@@ -287,25 +266,26 @@ fn write_items<'t, 'a>(
     room: u32,
     seen: &mut Seen,
     out: &mut Vec<u8>,
-) -> Option<()>
-    ensures reads { OnSome result
-        (ReadsItems room (left_of left.old) (left_of left.new) out.old.items out.new.items) }
-    ensures kept { OnSome result (Keeps seen.old seen.new) }
+) -> bool
+    ensures reads { IsTrue result →
+        ReadsItems room (left_of left.old) (left_of left.new) out.old.items out.new.items }
+    ensures kept { IsTrue result → Keeps seen.old seen.new }
 {
-    if room == 0 {
-        return None;
-    }
     let start = out.len();
-    begin(out)?;
+    if room == 0 || !begin(out) {
+        return false;
+    }
     // An item takes a token at least.
     for index in 0..left.most() {
         if left.take(Bracket::EndArray) {
             return finish(start, out);
         }
         left.pass_comma();
-        write_item(alloc, index, left, room - 1, seen, out)?;
+        if !write_item(alloc, index, left, room - 1, seen, out) {
+            return false;
+        }
     }
-    None
+    false
 }
 
 /// Appends the element of an object, whose first member or end is next.
@@ -319,21 +299,23 @@ fn write_object<'t, 'a>(
     room: u32,
     seen: &mut Seen,
     out: &mut Vec<u8>,
-) -> Option<()>
-    ensures reads { OnSome result (ReadsValue room name.now (token.begin_object ∷ left_of left.old)
-        (left_of left.new) out.old.items out.new.items) }
-    ensures kept { OnSome result (Keeps seen.old seen.new) }
+) -> bool
+    ensures reads { IsTrue result → ReadsValue room name.now (token.begin_object ∷ left_of left.old)
+        (left_of left.new) out.old.items out.new.items }
+    ensures kept { IsTrue result → Keeps seen.old seen.new }
 {
     if left.take(Bracket::EndObject) {
-        put_head(Kind::Document, name, out)?;
-        return write_empty(room, out);
+        return put_head(Kind::Document, name, out) && write_empty(room, out);
     }
-    let key = left.name()?;
-    if let Some(form) = form_of_name(key) {
-        return write_form(alloc, form, name, left, out);
+    let Some(key) = left.name() else {
+        return false;
+    };
+    match form_of_name(key) {
+        Some(form) => write_form(alloc, form, name, left, out),
+        None => {
+            put_head(Kind::Document, name, out) && write_members(alloc, key, left, room, seen, out)
+        }
     }
-    put_head(Kind::Document, name, out)?;
-    write_members(alloc, key, left, room, seen, out)
 }
 
 /// Appends the element of an array, whose items are next.
@@ -346,13 +328,12 @@ fn write_array<'t, 'a>(
     room: u32,
     seen: &mut Seen,
     out: &mut Vec<u8>,
-) -> Option<()>
-    ensures reads { OnSome result (ReadsValue room name.now (token.begin_array ∷ left_of left.old)
-        (left_of left.new) out.old.items out.new.items) }
-    ensures kept { OnSome result (Keeps seen.old seen.new) }
+) -> bool
+    ensures reads { IsTrue result → ReadsValue room name.now (token.begin_array ∷ left_of left.old)
+        (left_of left.new) out.old.items out.new.items }
+    ensures kept { IsTrue result → Keeps seen.old seen.new }
 {
-    put_head(Kind::Array, name, out)?;
-    write_items(alloc, left, room, seen, out)
+    put_head(Kind::Array, name, out) && write_items(alloc, left, room, seen, out)
 }
 
 /// Returns the value of a number that isn't too large.
@@ -371,15 +352,18 @@ fn plain_number(text: &str) -> Option<Leaf>
 
 /// Appends the element of a number, a truth value or null.
 #[inline(always)]
-fn write_word(token: Token<'_>, name: &str, out: &mut Vec<u8>) -> Option<()>
-    ensures { OnSome result
-        (PutsLeaf (token_of token.entry) name.now out.old.items out.new.items) }
+fn write_word(token: Token<'_>, name: &str, out: &mut Vec<u8>) -> bool
+    ensures { IsTrue result →
+        PutsLeaf (token_of token.entry) name.now out.old.items out.new.items }
 {
     match token {
-        Token::Number(text) => put_leaf(name, plain_number(text)?, out),
+        Token::Number(text) => match plain_number(text) {
+            Some(number) => put_leaf(name, number, out),
+            None => false,
+        },
         Token::Bool(truth) => put_leaf(name, Leaf::Boolean(truth), out),
         Token::Null => put_leaf(name, Leaf::Null, out),
-        _ => None,
+        _ => false,
     }
 }
 
@@ -395,10 +379,10 @@ fn write_value<'t, 'a>(
     room: u32,
     seen: &mut Seen,
     out: &mut Vec<u8>,
-) -> Option<()>
-    ensures reads { OnSome result (ReadsValue room name.now (left_of left.old) (left_of left.new)
-        out.old.items out.new.items) }
-    ensures kept { OnSome result (Keeps seen.old seen.new) }
+) -> bool
+    ensures reads { IsTrue result → ReadsValue room name.now (left_of left.old) (left_of left.new)
+        out.old.items out.new.items }
+    ensures kept { IsTrue result → Keeps seen.old seen.new }
 {
     if left.take(Bracket::BeginObject) {
         return write_object(alloc, name, left, room, seen, out);
@@ -409,7 +393,10 @@ fn write_value<'t, 'a>(
     if let Some(text) = left.text() {
         return put_string(name, text, out);
     }
-    write_word(left.word()?, name, out)
+    match left.word() {
+        Some(word) => write_word(word, name, out),
+        None => false,
+    }
 }
 
 /// Appends the document of an object whose first member or end is next.
@@ -419,15 +406,17 @@ fn write_outermost<'t, 'a>(
     left: &mut Source<'t, 'a>,
     seen: &mut Seen,
     out: &mut Vec<u8>,
-) -> Option<()>
-    ensures reads { OnSome result
-        (ReadsMembers 200 (left_of left.old) (left_of left.new) out.old.items out.new.items) }
-    ensures short { OnSome result (vec_len out.new < vec_len out.old + 2 ^ 31) }
+) -> bool
+    ensures reads { IsTrue result →
+        ReadsMembers 200 (left_of left.old) (left_of left.new) out.old.items out.new.items }
+    ensures short { IsTrue result → vec_len out.new < vec_len out.old + 2 ^ 31 }
 {
     if left.take(Bracket::EndObject) {
         return write_empty(200, out);
     }
-    let first = left.name()?;
+    let Some(first) = left.name() else {
+        return false;
+    };
     write_members(alloc, first, left, 200, seen, out)
 }
 
@@ -438,26 +427,22 @@ fn write_tokens<'t, 'a>(
     left: &mut Source<'t, 'a>,
     seen: &mut Seen,
     out: &mut Vec<u8>,
-) -> Option<()>
-    ensures put { OnSome result ((text : List ℕ) → left_of left.old ≡ tokens text
-        → IsDocumentPut (document_in text) out.old.items out.new.items) }
-    ensures short { OnSome result (vec_len out.new < vec_len out.old + 2 ^ 31) }
+) -> bool
+    ensures put { IsTrue result → (text : List ℕ) → left_of left.old ≡ tokens text
+        → IsDocumentPut (document_in text) out.old.items out.new.items }
+    ensures short { IsTrue result → vec_len out.new < vec_len out.old + 2 ^ 31 }
 {
-    if !left.take(Bracket::BeginObject) {
-        return None;
-    }
-    write_outermost(alloc, left, seen, out)?;
-    if left.is_at_end() { Some(()) } else { None }
+    left.take(Bracket::BeginObject) && write_outermost(alloc, left, seen, out) && left.is_at_end()
 }
 
 /// Appends the document of a text whose strings have no escape, like `write_text`.
-fn write_plain_text(alloc: Global, text: &str, seen: &mut Seen, out: &mut Vec<u8>) -> Option<()>
-    ensures put { OnSome result (IsDocumentPut (document_in text.now) out.old.items out.new.items) }
-    ensures short { OnSome result (vec_len out.new < vec_len out.old + 2 ^ 31) }
+fn write_plain_text(alloc: Global, text: &str, seen: &mut Seen, out: &mut Vec<u8>) -> bool
+    ensures put { IsTrue result → IsDocumentPut (document_in text.now) out.old.items out.new.items }
+    ensures short { IsTrue result → vec_len out.new < vec_len out.old + 2 ^ 31 }
 {
     // A member takes five bytes, with a comma.
-    seen.begin_text(text.len() / 5)?;
-    write_tokens(alloc, &mut Source::Text(Cursor::new(text)), seen, out)
+    seen.begin_text(text.len() / 5)
+        && write_tokens(alloc, &mut Source::Text(Cursor::new(text)), seen, out)
 }
 
 /// Appends the document of a text, like `write_text`, by way of a tape.
@@ -467,30 +452,30 @@ fn write_tape<'a>(
     scratch: &'a mut Scratch,
     seen: &mut Seen,
     out: &mut Vec<u8>,
-) -> Option<()>
-    ensures put { OnSome result (IsDocumentPut (document_in text.now) out.old.items out.new.items) }
-    ensures short { OnSome result (vec_len out.new < vec_len out.old + 2 ^ 31) }
+) -> bool
+    ensures put { IsTrue result → IsDocumentPut (document_in text.now) out.old.items out.new.items }
+    ensures short { IsTrue result → vec_len out.new < vec_len out.old + 2 ^ 31 }
 {
     let Ok(tape) = Tape::parse(text, scratch, Vec::new(alloc)) else {
-        return None;
+        return false;
     };
     let nodes = tape.nodes();
     // A name takes two nodes, with its value.
-    seen.begin_text(nodes.len() / 2)?;
-    write_tokens(alloc, &mut Source::Tape(Nodes::new(nodes)), seen, out)
+    seen.begin_text(nodes.len() / 2)
+        && write_tokens(alloc, &mut Source::Tape(Nodes::new(nodes)), seen, out)
 }
 
 /// Puts the bytes of a text's document into `out`, in place of what that holds, if the text is one
-/// of those that are written so. Else it returns `None`, and nothing is said of what `out` holds.
+/// of those that are written so. Else it returns false, and nothing is said of what `out` holds.
 pub(crate) fn write_text<'a>(
     alloc: Global,
     text: &'a str,
     scratch: &'a mut Scratch,
     seen: &mut Seen,
     out: &mut Vec<u8>,
-) -> Option<()>
-    ensures put { OnSome result (IsDocumentPut (document_in text.now) [] out.new.items) }
-    ensures short { OnSome result (vec_len out.new < 2 ^ 31) }
+) -> bool
+    ensures put { IsTrue result → IsDocumentPut (document_in text.now) [] out.new.items }
+    ensures short { IsTrue result → vec_len out.new < 2 ^ 31 }
 {
     out.clear();
     if memchr(b'\\', text.as_bytes()).is_some() {

@@ -1,7 +1,9 @@
 //! Appending elements to bytes (bsonspec.org, version 1.1: `element`). Each function appends all
-//! bytes of its part, or returns `None` if memory is refused or a count is too large.
+//! bytes of its part and returns true, or returns false if memory is refused or a count is too
+//! large. What the bytes are then isn't said, so that parts are appended one behind the other, and
+//! what each returned is looked at last.
 
-ghost use Rattle.std.specs.Prelude.{◌≡◌, ◌<◌, ◌≤◌, ◌+◌, ◌-◌, ◌^◌, ◌++◌, ◌∷◌, [], OnSome, drop};
+ghost use Rattle.std.specs.Prelude.{◌≡◌, ◌<◌, ◌≤◌, ◌+◌, ◌-◌, ◌^◌, ◌++◌, ◌∷◌, [], IsTrue, drop};
 ghost use Rattle.std.specs.Prelude.{take, vec_len};
 ghost use Rattle.bson_elem.specs.{binary, byte_of, cstring, document, little, string};
 ghost use Rattle.bson_doc.specs.Values.{element_bytes};
@@ -11,80 +13,75 @@ ghost use Rattle.bson_json_read.specs.Table.{data_value, string_value};
 use bson_elem::{Kind, MAX_LEN};
 use byteorder::{ByteOrder, LittleEndian};
 
+/// Appends one byte.
+#[inline(always)]
+fn put_byte(byte: u8, out: &mut Vec<u8>) -> bool
+    ensures { IsTrue result → out.new.items ≡ out.old.items ++ byte ∷ [] }
+{
+    out.push(byte).is_ok()
+}
+
 /// Appends bytes as they are.
 #[inline(always)]
-fn put_bytes(bytes: &[u8], out: &mut Vec<u8>) -> Option<()>
-    ensures { OnSome result (out.new.items ≡ out.old.items ++ bytes.now) }
+fn put_bytes(bytes: &[u8], out: &mut Vec<u8>) -> bool
+    ensures { IsTrue result → out.new.items ≡ out.old.items ++ bytes.now }
 {
-    out.extend_from_slice(bytes).ok()
+    out.extend_from_slice(bytes).is_ok()
 }
 
 /// Appends a text and the 00 that ends it.
 #[inline(always)]
-fn put_cstring(text: &str, out: &mut Vec<u8>) -> Option<()>
-    ensures { OnSome result (out.new.items ≡ out.old.items ++ cstring text.now) }
+fn put_cstring(text: &str, out: &mut Vec<u8>) -> bool
+    ensures { IsTrue result → out.new.items ≡ out.old.items ++ cstring text.now }
 {
-    put_bytes(text.as_bytes(), out)?;
-    out.push(0).ok()
+    put_bytes(text.as_bytes(), out) & put_byte(0, out)
 }
 
 /// Appends a count.
 #[inline(always)]
-fn put_count(count: usize, out: &mut Vec<u8>) -> Option<()>
-    ensures { OnSome result (out.new.items ≡ out.old.items ++ little count) }
+fn put_count(count: usize, out: &mut Vec<u8>) -> bool
+    ensures { IsTrue result → out.new.items ≡ out.old.items ++ little count }
 {
-    if count > MAX_LEN {
-        return None;
-    }
-    put_bytes(&(count as u32).to_le_bytes(), out)
+    count <= MAX_LEN && put_bytes(&(count as u32).to_le_bytes(), out)
 }
 
 /// Appends what stands before a value: the byte of its kind, and the name of its pair.
 #[inline(always)]
-pub(crate) fn put_head(kind: Kind, name: &str, out: &mut Vec<u8>) -> Option<()>
-    ensures { OnSome result (out.new.items ≡ out.old.items ++ (byte_of kind ∷ cstring name.now)) }
+pub(crate) fn put_head(kind: Kind, name: &str, out: &mut Vec<u8>) -> bool
+    ensures { IsTrue result → out.new.items ≡ out.old.items ++ (byte_of kind ∷ cstring name.now) }
 {
-    out.push(kind.byte()).ok()?;
-    put_cstring(name, out)
+    put_byte(kind.byte(), out) & put_cstring(name, out)
 }
 
 /// Appends the value of a text.
 #[inline(always)]
-fn put_text(text: &str, out: &mut Vec<u8>) -> Option<()>
-    ensures { OnSome result (out.new.items ≡ out.old.items ++ string text.now) }
+fn put_text(text: &str, out: &mut Vec<u8>) -> bool
+    ensures { IsTrue result → out.new.items ≡ out.old.items ++ string text.now }
 {
-    put_count(text.len() + 1, out)?;
-    put_cstring(text, out)
+    put_count(text.len() + 1, out) & put_cstring(text, out)
 }
 
 /// Appends a string under a name.
-pub(crate) fn put_string(name: &str, text: &str, out: &mut Vec<u8>) -> Option<()>
-    ensures { OnSome result
-        (out.new.items ≡ out.old.items ++ element_bytes name.now (string_value text.now)) }
+pub(crate) fn put_string(name: &str, text: &str, out: &mut Vec<u8>) -> bool
+    ensures { IsTrue result →
+        out.new.items ≡ out.old.items ++ element_bytes name.now (string_value text.now) }
 {
-    put_head(Kind::String, name, out)?;
-    put_text(text, out)
+    put_head(Kind::String, name, out) & put_text(text, out)
 }
 
-/// Appends the value of a binary that has no inner count.
-fn put_data(subtype: u8, bytes: &[u8], out: &mut Vec<u8>) -> Option<()>
-    ensures { OnSome result (out.new.items ≡ out.old.items ++ binary subtype bytes.now) }
+/// Appends the value of a binary that has no inner count. Of one that has it returns false.
+fn put_data(subtype: u8, bytes: &[u8], out: &mut Vec<u8>) -> bool
+    ensures { IsTrue result → out.new.items ≡ out.old.items ++ binary subtype bytes.now }
 {
-    if subtype == 2 {
-        return None;
-    }
-    put_count(bytes.len(), out)?;
-    out.push(subtype).ok()?;
-    put_bytes(bytes, out)
+    subtype != 2 && put_count(bytes.len(), out) & put_byte(subtype, out) & put_bytes(bytes, out)
 }
 
-/// Appends a binary under a name. Of one that has an inner count it returns `None`.
-pub(crate) fn put_binary(name: &str, subtype: u8, bytes: &[u8], out: &mut Vec<u8>) -> Option<()>
-    ensures { OnSome result
-        (out.new.items ≡ out.old.items ++ element_bytes name.now (data_value subtype bytes.now)) }
+/// Appends a binary under a name. Of one that has an inner count it returns false.
+pub(crate) fn put_binary(name: &str, subtype: u8, bytes: &[u8], out: &mut Vec<u8>) -> bool
+    ensures { IsTrue result →
+        out.new.items ≡ out.old.items ++ element_bytes name.now (data_value subtype bytes.now) }
 {
-    put_head(Kind::Binary, name, out)?;
-    put_data(subtype, bytes, out)
+    put_head(Kind::Binary, name, out) & put_data(subtype, bytes, out)
 }
 
 /// A value that takes no memory. It has a sixth of the size of a `Bson`, all of whose bytes are set
@@ -103,18 +100,17 @@ pub(crate) enum Leaf {
 
 /// Appends the kind of a value, the name of its pair, and the value's bytes.
 #[inline(always)]
-fn put_fixed(kind: Kind, name: &str, bytes: &[u8], out: &mut Vec<u8>) -> Option<()>
-    ensures { OnSome result
-        (out.new.items ≡ out.old.items ++ (byte_of kind ∷ (cstring name.now ++ bytes.now))) }
+fn put_fixed(kind: Kind, name: &str, bytes: &[u8], out: &mut Vec<u8>) -> bool
+    ensures { IsTrue result →
+        out.new.items ≡ out.old.items ++ (byte_of kind ∷ (cstring name.now ++ bytes.now)) }
 {
-    put_head(kind, name, out)?;
-    put_bytes(bytes, out)
+    put_head(kind, name, out) & put_bytes(bytes, out)
 }
 
 /// Appends a value under a name.
-pub(crate) fn put_leaf(name: &str, leaf: Leaf, out: &mut Vec<u8>) -> Option<()>
-    ensures { OnSome result
-        (out.new.items ≡ out.old.items ++ element_bytes name.now (leaf_of leaf)) }
+pub(crate) fn put_leaf(name: &str, leaf: Leaf, out: &mut Vec<u8>) -> bool
+    ensures { IsTrue result →
+        out.new.items ≡ out.old.items ++ element_bytes name.now (leaf_of leaf) }
 {
     match leaf {
         Leaf::Null => put_head(Kind::Null, name, out),
@@ -130,39 +126,38 @@ pub(crate) fn put_leaf(name: &str, leaf: Leaf, out: &mut Vec<u8>) -> Option<()>
 
 /// Begins a document, with four bytes for its length.
 #[inline(always)]
-pub(crate) fn begin(out: &mut Vec<u8>) -> Option<()>
-    ensures { OnSome result (out.new.items ≡ out.old.items ++ (0 ∷ 0 ∷ 0 ∷ 0 ∷ [])) }
+pub(crate) fn begin(out: &mut Vec<u8>) -> bool
+    ensures { IsTrue result → out.new.items ≡ out.old.items ++ (0 ∷ 0 ∷ 0 ∷ 0 ∷ []) }
 {
     put_bytes(&[0; 4], out)
 }
 
 /// Overwrites the four bytes at offset `start` with the count of all bytes from there on.
-fn put_len(start: usize, out: &mut Vec<u8>) -> Option<()>
+fn put_len(start: usize, out: &mut Vec<u8>) -> bool
     requires { start + 4 ≤ vec_len out.old }
-    ensures bytes { OnSome result (out.new.items
+    ensures bytes { IsTrue result → out.new.items
         ≡ take start out.old.items
-        ++ (little (vec_len out.old - start) ++ drop (start + 4) out.old.items)) }
-    ensures short { OnSome result (vec_len out.new < start + 2 ^ 31) }
+        ++ (little (vec_len out.old - start) ++ drop (start + 4) out.old.items) }
+    ensures short { IsTrue result → vec_len out.new < start + 2 ^ 31 }
 {
     let len = out.len() - start;
     if len > MAX_LEN {
-        return None;
+        return false;
     }
     LittleEndian::write_u32(&mut out[start..start + 4], len as u32);
-    Some(())
+    true
 }
 
-/// Ends the document that begins at offset `start`, and puts its length there. Returns `None` if no
+/// Ends the document that begins at offset `start`, and puts its length there. Returns false if no
 /// document can begin there.
 #[tactic(auto, using(crate::proofs::Elements::finished))]
-pub(crate) fn finish(start: usize, out: &mut Vec<u8>) -> Option<()>
-    ensures bytes { OnSome result (out.new.items
-        ≡ take start out.old.items ++ document (drop (start + 4) out.old.items)) }
-    ensures short { OnSome result (vec_len out.new < start + 2 ^ 31) }
+pub(crate) fn finish(start: usize, out: &mut Vec<u8>) -> bool
+    ensures bytes { IsTrue result → out.new.items
+        ≡ take start out.old.items ++ document (drop (start + 4) out.old.items) }
+    ensures short { IsTrue result → vec_len out.new < start + 2 ^ 31 }
 {
     if out.len() < 4 || start > out.len() - 4 {
-        return None;
+        return false;
     }
-    out.push(0).ok()?;
-    put_len(start, out)
+    put_byte(0, out) && put_len(start, out)
 }

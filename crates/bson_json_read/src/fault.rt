@@ -7,7 +7,7 @@ use std::alloc::Global;
 use std::fmt;
 
 /// Why a text isn't read.
-#[derive(Clone, Copy, Debug, PartialEq, Eq)]
+#[derive(Clone, Copy, PartialEq, Eq)]
 pub enum Cause {
     /// The text is no JSON, or nests deeper than any document does.
     NotJson,
@@ -47,37 +47,62 @@ impl Cause {
     }
 }
 
+impl Cause {
+    ghost use Rattle.bson_json_read.specs.Causes.{cause_words};
+
+    /// Returns what the cause displays as, without the name of a form.
+    fn words(self) -> &'static str
+        ensures { result.now ≡ cause_words self }
+    {
+        match self {
+            Cause::NotJson => "the text is no JSON",
+            Cause::NotAnObject => "the text is no object",
+            Cause::RepeatedName => "a name is repeated",
+            Cause::ZeroInName => "a name has a 00 in it",
+            Cause::Depth => "a document or an array is too deep",
+            Cause::NumberTooLarge => "a number is too large",
+            Cause::WrongForm(_) => "an object is not of the form ",
+            Cause::OutOfMemory => "out of memory",
+        }
+    }
+}
+
 impl fmt::Display for Cause {
     ghost use Rattle.bson_json_read.specs.Causes.{shown_cause};
 
     ghost output = { shown_cause };
 
+    #[tactic(auto, using(crate::proofs::CauseTexts::plain_text))]
     fn fmt<W: fmt::Write>(&self, f: &mut fmt::Formatter<W>) -> fmt::Result {
+        f.write_str(self.words())?;
         match *self {
-            Cause::NotJson => f.write_str("the text is no JSON"),
-            Cause::NotAnObject => f.write_str("the text is no object"),
-            Cause::RepeatedName => f.write_str("a name is repeated"),
-            Cause::ZeroInName => f.write_str("a name has a 00 in it"),
-            Cause::Depth => f.write_str("a document or an array is too deep"),
-            Cause::NumberTooLarge => f.write_str("a number is too large"),
-            Cause::WrongForm(form) => {
-                f.write_str("an object is not of the form ")?;
-                f.write_str(form.name())
-            }
-            Cause::OutOfMemory => f.write_str("out of memory"),
+            Cause::WrongForm(form) => f.write_str(form.name()),
+            _ => Ok(()),
         }
+    }
+}
+
+impl fmt::Debug for Cause {
+    fn fmt<W: fmt::Write>(&self, f: &mut fmt::Formatter<W>) -> fmt::Result {
+        fmt::Display::fmt(self, f)
     }
 }
 
 impl std::error::Error for Cause {}
 
 /// Why a text isn't read, and at which of its values.
-#[derive(Debug, Drop)]
+#[derive(Drop)]
 pub struct JsonFault {
     pub cause: Cause,
     /// The indexes of the value at fault and of those that hold it, each in the object or the
     /// array that holds it, the innermost first.
     pub path: Vec<usize>,
+}
+
+impl fmt::Debug for JsonFault {
+    fn fmt<W: fmt::Write>(&self, f: &mut fmt::Formatter<W>) -> fmt::Result {
+        fmt::Display::fmt(&self.cause, f)
+    }
 }
 
 impl JsonFault {

@@ -3,8 +3,10 @@
 ghost use Rattle.std.specs.Prelude.{◌≡◌, Some};
 ghost use Rattle.bson_json_read.specs.Forms.{begins_with_dollar, form_named};
 
+use std::fmt;
+
 /// A form of objects that stand for one value, by its name.
-#[derive(Clone, Copy, Debug, PartialEq, Eq)]
+#[derive(Clone, Copy, PartialEq, Eq)]
 pub enum Form {
     /// `$oid`
     ObjectId,
@@ -66,6 +68,12 @@ impl Form {
             Form::MaxKey => "$maxKey",
             Form::Undefined => "$undefined",
         }
+    }
+}
+
+impl fmt::Debug for Form {
+    fn fmt<W: fmt::Write>(&self, f: &mut fmt::Formatter<W>) -> fmt::Result {
+        f.write_str(self.name())
     }
 }
 

@@ -6,7 +6,7 @@ ghost use Rattle.bson_json_read.specs.Frames as spec;
 use crate::fault::Cause;
 
 /// Where reading stands between texts.
-#[derive(Clone, Copy, Debug, PartialEq, Eq)]
+#[derive(Clone, Copy)]
 pub(crate) enum Frame {
     /// Before all texts.
     Start,

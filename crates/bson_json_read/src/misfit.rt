@@ -36,6 +36,7 @@ enum Fit {
     FaultAtIt,
     /// The fault is at what follows it.
     FaultBehindIt,
+    OutOfMemory,
 }
 
 /// The arrays and objects that are open in a text, the innermost last, and what may be next.
@@ -47,26 +48,32 @@ struct Nesting {
 
 impl Nesting {
     /// Begins an array or an object, which nests no deeper than any document does.
-    fn begin(&mut self, holder: Holder) -> Result<Fit, AllocError> {
+    fn begin(&mut self, holder: Holder) -> Fit {
         if self.open.len() >= JSON_DEPTH {
-            return Ok(Fit::FaultAtIt);
+            return Fit::FaultAtIt;
         }
-        self.open.push(holder)?;
+        if self.open.push(holder).is_err() {
+            return Fit::OutOfMemory;
+        }
+        self.want_in(holder)
+    }
+
+    /// Stands behind a value in what holds it.
+    fn want_in(&mut self, holder: Holder) -> Fit {
         self.wanted = match holder {
             Holder::Array => Wanted::Item,
             Holder::Object => Wanted::Name,
         };
-        Ok(Fit::Fits)
+        Fit::Fits
     }
 
     /// Ends a value. Behind the outermost one is the fault, since nothing may follow it.
     fn end_value(&mut self) -> Fit {
-        self.wanted = match self.open.last() {
-            Some(Holder::Array) => Wanted::Item,
-            Some(Holder::Object) => Wanted::Name,
+        let holder = match self.open.last() {
+            Some(holder) => *holder,
             None => return Fit::FaultBehindIt,
         };
-        Fit::Fits
+        self.want_in(holder)
     }
 
     /// Ends the innermost array or object.
@@ -76,16 +83,14 @@ impl Nesting {
     }
 
     /// Passes over a token where a value may stand.
-    fn pass_value(&mut self, token: Token<'_>) -> Result<Fit, AllocError> {
+    fn pass_value(&mut self, token: Token<'_>) -> Fit {
         match token {
             Token::BeginObject => self.begin(Holder::Object),
             Token::BeginArray => self.begin(Holder::Array),
-            Token::String(_) | Token::Number(_) | Token::Bool(_) | Token::Null => {
-                Ok(self.end_value())
-            }
+            Token::String(_) | Token::Number(_) | Token::Bool(_) | Token::Null => self.end_value(),
             // The string is a value, and behind that a colon may not stand.
-            Token::Key(_) => Ok(Fit::FaultBehindIt),
-            Token::EndObject | Token::EndArray | Token::Bad => Ok(Fit::FaultAtIt),
+            Token::Key(_) => Fit::FaultBehindIt,
+            Token::EndObject | Token::EndArray | Token::Bad => Fit::FaultAtIt,
         }
     }
 
@@ -104,12 +109,29 @@ impl Nesting {
     }
 
     /// Passes over a token.
-    fn pass(&mut self, token: Token<'_>) -> Result<Fit, AllocError> {
+    fn pass(&mut self, token: Token<'_>) -> Fit {
         match (self.wanted, token) {
-            (Wanted::Name, _) => Ok(self.pass_name(token)),
-            (Wanted::Item, Token::EndArray) => Ok(self.end_holder()),
+            (Wanted::Name, _) => self.pass_name(token),
+            (Wanted::Item, Token::EndArray) => self.end_holder(),
             _ => self.pass_value(token),
         }
+    }
+
+    /// Returns the offset of the fault, like `misfit`.
+    fn misfit(&mut self, text: &[u8], reader: &mut Reader<'_>) -> Result<usize, AllocError>
+        ensures { IfOk result (λ n. n ≤ length text.now) }
+    {
+        let mut start = reader.offset().min(text.len());
+        while let Some(token) = reader.next() {
+            let end = reader.offset().min(text.len());
+            match self.pass(token) {
+                Fit::Fits => start = end,
+                Fit::FaultAtIt => return Ok(start),
+                Fit::FaultBehindIt => return Ok(mark_before(text, end)),
+                Fit::OutOfMemory => return Err(AllocError),
+            }
+        }
+        Ok(start)
     }
 }
 
@@ -144,14 +166,5 @@ pub(crate) fn misfit(
         open: Vec::new(alloc),
         wanted: Wanted::Value,
     };
-    let mut start = reader.offset().min(text.len());
-    while let Some(token) = reader.next() {
-        let end = reader.offset().min(text.len());
-        match nesting.pass(token)? {
-            Fit::Fits => start = end,
-            Fit::FaultAtIt => return Ok(start),
-            Fit::FaultBehindIt => return Ok(mark_before(text, end)),
-        }
-    }
-    Ok(start)
+    nesting.misfit(text, reader)
 }

@@ -1,6 +1,6 @@
 //! Nodes of a JSON text, one after another.
 
-ghost use Rattle.std.specs.Prelude.{◌≡◌, ◌∷◌, [], IfSome, IsTrue, MatchOption, drop, map};
+ghost use Rattle.std.specs.Prelude.{◌≡◌, ◌∷◌, [], IfSome, IsTrue, MatchOption, map};
 ghost use Rattle.std.specs.Str.{IsUtf8};
 ghost use Rattle.json.specs.Reads.{token_of};
 ghost use Rattle.std.specs.Bool.{MatchBool};
@@ -15,12 +15,11 @@ use std::marker::Model;
 /// The nodes that are next. Contracts see their tokens.
 #[derive(Drop)]
 pub(crate) struct Nodes<'t, 'a> {
-    nodes: &'t [Node<'a>],
-    at: usize,
+    rest: &'t [Node<'a>],
 }
 
 impl<'t, 'a> Model for Nodes<'t, 'a> {
-    ghost use Rattle.std.specs.Prelude.{List, drop, map};
+    ghost use Rattle.std.specs.Prelude.{List, map};
     ghost use Rattle.json.specs.Tape.{node_token};
     ghost use Rattle.json.specs.Token.{Token, tokens_code};
 
@@ -28,7 +27,7 @@ impl<'t, 'a> Model for Nodes<'t, 'a> {
 
     ghost coded = { tokens_code };
 
-    ghost view = { λ n. drop n.at (map node_token n.nodes.now) };
+    ghost view = { λ n. map node_token n.rest.now };
 }
 
 /// Returns true if a node is this bracket.
@@ -49,56 +48,19 @@ impl<'t, 'a> Nodes<'t, 'a> {
     pub(crate) fn new(nodes: &'t [Node<'a>]) -> Nodes<'t, 'a>
         ensures { result ≡ map node_token nodes.now }
     {
-        Nodes { nodes, at: 0 }
+        Nodes { rest: nodes }
     }
 
-    /// Returns the next node, and leaves it there.
-    #[tactic(auto, using(crate::proofs::Tokens::first_node, crate::proofs::Tokens::no_node))]
-    #[inline(always)]
-    pub(crate) fn peek(&self) -> Option<Node<'a>>
-        ensures { MatchOption result (self.now ≡ [])
-            (λ n. self.now ≡ node_token n ∷ drop 1 self.now) }
-    {
-        if self.at < self.nodes.len() {
-            Some(self.nodes[self.at])
-        } else {
-            None
-        }
-    }
-
-    /// Takes the next node, if there is one.
-    #[tactic(auto, using(crate::proofs::Tokens::one_less))]
-    #[inline(always)]
-    fn skip(&mut self)
-        ensures { self.new ≡ drop 1 self.old }
-    {
-        if self.at < self.nodes.len() {
-            self.at += 1;
-        }
-    }
-
-    /// Takes the next node.
-    #[inline(always)]
-    pub(crate) fn next(&mut self) -> Option<Node<'a>>
-        ensures { IfSome result (λ n. self.old ≡ node_token n ∷ self.new) }
-    {
-        let node = self.peek()?;
-        self.skip();
-        Some(node)
-    }
-}
-
-impl<'t, 'a> Nodes<'t, 'a> {
-    /// Returns a number that isn't less than how many tokens there were.
+    /// Returns a number that isn't less than how many tokens there are.
     pub(crate) fn most(&self) -> usize {
-        self.nodes.len()
+        self.rest.len()
     }
 
     /// Returns true if nothing is left.
     pub(crate) fn is_at_end(&self) -> bool
         ensures { IsTrue result → self.now ≡ [] }
     {
-        self.peek().is_none()
+        self.rest.is_empty()
     }
 
     /// Takes this bracket, if it is next. Returns true if it did.
@@ -107,9 +69,9 @@ impl<'t, 'a> Nodes<'t, 'a> {
         ensures { MatchBool result (self.old ≡ bracket_token bracket ∷ self.new)
             (self.new ≡ self.old) }
     {
-        match self.peek() {
-            Some(node) if is_bracket(node, bracket) => {
-                self.skip();
+        match self.rest {
+            [node, rest @ ..] if is_bracket(*node, bracket) => {
+                self.rest = rest;
                 true
             }
             _ => false,
@@ -128,8 +90,11 @@ impl<'t, 'a> Nodes<'t, 'a> {
         ensures token { IfSome result (λ s. self.old ≡ token.key s.now ∷ self.new) }
         ensures utf8 { IfSome result (λ s. IsUtf8 s.now) }
     {
-        match self.next()? {
-            Node::Key(name) => Some(name),
+        match self.rest {
+            [Node::Key(name), rest @ ..] => {
+                self.rest = rest;
+                Some(*name)
+            }
             _ => None,
         }
     }
@@ -140,10 +105,10 @@ impl<'t, 'a> Nodes<'t, 'a> {
         ensures { MatchOption result (self.new ≡ self.old)
             (λ s. self.old ≡ token.string s.now ∷ self.new) }
     {
-        match self.peek() {
-            Some(Node::String(text)) => {
-                self.skip();
-                Some(text)
+        match self.rest {
+            [Node::String(text), rest @ ..] => {
+                self.rest = rest;
+                Some(*text)
             }
             _ => None,
         }
@@ -154,10 +119,19 @@ impl<'t, 'a> Nodes<'t, 'a> {
     pub(crate) fn word(&mut self) -> Option<Token<'a>>
         ensures { IfSome result (λ t. self.old ≡ token_of t ∷ self.new) }
     {
-        match self.next()? {
-            Node::Number(text) => Some(Token::Number(text)),
-            Node::Bool(truth) => Some(Token::Bool(truth)),
-            Node::Null => Some(Token::Null),
+        match self.rest {
+            [Node::Number(text), rest @ ..] => {
+                self.rest = rest;
+                Some(Token::Number(*text))
+            }
+            [Node::Bool(truth), rest @ ..] => {
+                self.rest = rest;
+                Some(Token::Bool(*truth))
+            }
+            [Node::Null, rest @ ..] => {
+                self.rest = rest;
+                Some(Token::Null)
+            }
             _ => None,
         }
     }
@@ -165,6 +139,6 @@ impl<'t, 'a> Nodes<'t, 'a> {
     /// Returns true if an object may be next.
     #[inline(always)]
     pub(crate) fn is_at_object(&self) -> bool {
-        matches!(self.peek(), Some(Node::Object(_)))
+        matches!(self.rest, [Node::Object(_), ..])
     }
 }

@@ -43,13 +43,10 @@ pub(crate) fn read_finite(text: &str) -> Option<f64>
 pub(crate) fn read_double(text: &str) -> Option<f64>
     ensures { result ≡ double_of_text text.now }
 {
-    if text == "NaN" {
-        Some(f64::NAN)
-    } else if text == "Infinity" {
-        Some(f64::INFINITY)
-    } else if text == "-Infinity" {
-        Some(f64::NEG_INFINITY)
-    } else {
-        read_finite(text)
+    match text {
+        "NaN" => Some(f64::NAN),
+        "Infinity" => Some(f64::INFINITY),
+        "-Infinity" => Some(f64::NEG_INFINITY),
+        _ => read_finite(text),
     }
 }

@@ -1,22 +1,69 @@
 //! The values that objects of each form stand for.
 
 ghost use Rattle.std.specs.Prelude.{◌≡◌, IfOk, option_map};
+ghost use Rattle.json.specs.Json.{object, string};
 ghost use Rattle.json.specs.Value.{members_view, value_view};
 ghost use Rattle.bson_doc.specs.{value_of};
+ghost use Rattle.bson_json_read.specs.Leaf.{leaf_of};
 ghost use Rattle.bson_json_read.specs.Table as spec;
-ghost use Rattle.bson_json_read.specs.Table.{both_texts, form_value};
+ghost use Rattle.bson_json_read.specs.Table.{both_texts, form_value, member_value};
 ghost use Rattle.bson_json_read.specs.declared.form.Form.TheVariants as forms;
 
 use crate::bytes::{read_base64, read_subtype, read_uuid};
+use crate::element::Leaf;
 use crate::form::Form;
-use crate::members::{as_members, both_values};
+use crate::members::{as_members, both_values, sole_value};
 use crate::options::read_options;
-use crate::wrapped;
-use crate::wrapped::{id_of, object_alone, text_alone};
+use crate::wrapped::{id_in, long_date, text_leaf, timestamp, word_value};
 use crate::zero::has_zero;
 use bson_doc::Bson;
 use json::Value;
 use std::alloc::{AllocError, Global};
+
+/// Returns the value that a leaf is.
+fn bson_of(leaf: Leaf) -> Bson
+    ensures { value_of result ≡ leaf_of leaf }
+{
+    match leaf {
+        Leaf::Null => Bson::Null,
+        Leaf::Boolean(truth) => Bson::Boolean(truth),
+        Leaf::Int32(n) => Bson::Int32(n),
+        Leaf::Int64(n) => Bson::Int64(n),
+        Leaf::DateTime(n) => Bson::DateTime(n),
+        Leaf::Double(bytes) => Bson::Double(bytes),
+        Leaf::ObjectId(bytes) => Bson::ObjectId(bytes),
+        Leaf::Decimal128(bytes) => Bson::Decimal128(bytes),
+    }
+}
+
+/// Returns the value of `$uuid`.
+fn uuid(alloc: Global, text: &str) -> Result<Option<Bson>, AllocError>
+    ensures { IfOk result (λ read. option_map value_of read
+        ≡ member_value forms.Uuid (string text.now)) }
+{
+    let Some(id) = read_uuid(text) else {
+        return Ok(None);
+    };
+    let bytes = Vec::from_slice(alloc, &id)?;
+    Ok(Some(Bson::Binary { subtype: 4, bytes }))
+}
+
+/// Returns the value that a text stands for in an object of this form.
+#[tactic(auto, using(crate::proofs::FormRows::of_text))]
+fn text_value(alloc: Global, form: Form, text: &str) -> Result<Option<Bson>, AllocError>
+    ensures { IfOk result (λ read. option_map value_of read
+        ≡ member_value form (string text.now)) }
+{
+    match form {
+        Form::Symbol => Ok(Some(Bson::Symbol(String::from_str(alloc, text)?))),
+        Form::Code => Ok(Some(Bson::Code(String::from_str(alloc, text)?))),
+        Form::Uuid => uuid(alloc, text),
+        _ => match text_leaf(form, text) {
+            Some(leaf) => Ok(Some(bson_of(leaf))),
+            None => Ok(None),
+        },
+    }
+}
 
 /// Returns the texts of these two names, if they alone are there.
 fn texts_alone<'a>(members: &[(&'a str, Value<'a>)], a: &str, b: &str) -> Option<(&'a str, &'a str)>
@@ -25,43 +72,6 @@ fn texts_alone<'a>(members: &[(&'a str, Value<'a>)], a: &str, b: &str) -> Option
 {
     let (first, second) = both_values(members, a, b)?;
     Some((first.as_str()?, second.as_str()?))
-}
-
-/// Returns the value of an object of `$symbol`.
-fn symbol<'a>(alloc: Global, members: &[(&'a str, Value<'a>)]) -> Result<Option<Bson>, AllocError>
-    ensures { IfOk result (λ read. option_map value_of read
-        ≡ form_value forms.Symbol (members_view members.now)) }
-{
-    let Some(text) = text_alone(members, "$symbol") else {
-        return Ok(None);
-    };
-    Ok(Some(Bson::Symbol(String::from_str(alloc, text)?)))
-}
-
-/// Returns the value of an object of `$code` alone.
-fn code<'a>(alloc: Global, members: &[(&'a str, Value<'a>)]) -> Result<Option<Bson>, AllocError>
-    ensures { IfOk result (λ read. option_map value_of read
-        ≡ form_value forms.Code (members_view members.now)) }
-{
-    let Some(text) = text_alone(members, "$code") else {
-        return Ok(None);
-    };
-    Ok(Some(Bson::Code(String::from_str(alloc, text)?)))
-}
-
-/// Returns the value of an object of `$uuid`.
-fn uuid<'a>(alloc: Global, members: &[(&'a str, Value<'a>)]) -> Result<Option<Bson>, AllocError>
-    ensures { IfOk result (λ read. option_map value_of read
-        ≡ form_value forms.Uuid (members_view members.now)) }
-{
-    let Some(text) = text_alone(members, "$uuid") else {
-        return Ok(None);
-    };
-    let Some(id) = read_uuid(text) else {
-        return Ok(None);
-    };
-    let bytes = Vec::from_slice(alloc, &id)?;
-    Ok(Some(Bson::Binary { subtype: 4, bytes }))
 }
 
 /// Returns the binary of these texts.
@@ -78,20 +88,6 @@ fn binary_of(alloc: Global, base64: &str, subtype: &str) -> Result<Option<Bson>,
     }
 }
 
-/// Returns the value of an object of `$binary`.
-fn binary<'a>(alloc: Global, members: &[(&'a str, Value<'a>)]) -> Result<Option<Bson>, AllocError>
-    ensures { IfOk result (λ read. option_map value_of read
-        ≡ form_value forms.Binary (members_view members.now)) }
-{
-    let Some(inner) = object_alone(members, "$binary") else {
-        return Ok(None);
-    };
-    match texts_alone(inner, "base64", "subType") {
-        Some((base64, subtype)) => binary_of(alloc, base64, subtype),
-        None => Ok(None),
-    }
-}
-
 /// Returns the regular expression of these texts.
 fn regex_of(alloc: Global, pattern: &str, options: &str) -> Result<Option<Bson>, AllocError>
     ensures { IfOk result (λ read. option_map value_of read
@@ -100,31 +96,11 @@ fn regex_of(alloc: Global, pattern: &str, options: &str) -> Result<Option<Bson>,
     if has_zero(pattern.as_bytes()) || has_zero(options.as_bytes()) {
         return Ok(None);
     }
-    Ok(Some(Bson::Regex {
-        pattern: String::from_str(alloc, pattern)?,
-        options: read_options(alloc, options)?,
-    }))
-}
-
-/// Returns the value of an object of `$regularExpression`.
-fn regex<'a>(alloc: Global, members: &[(&'a str, Value<'a>)]) -> Result<Option<Bson>, AllocError>
-    ensures { IfOk result (λ read. option_map value_of read
-        ≡ form_value forms.Regex (members_view members.now)) }
-{
-    let Some(inner) = object_alone(members, "$regularExpression") else {
-        return Ok(None);
-    };
-    match texts_alone(inner, "pattern", "options") {
-        Some((pattern, options)) => regex_of(alloc, pattern, options),
-        None => Ok(None),
+    let options = read_options(alloc, options)?;
+    match String::from_str(alloc, pattern) {
+        Ok(pattern) => Ok(Some(Bson::Regex { pattern, options })),
+        Err(error) => Err(error),
     }
-}
-
-/// Returns the bytes of an object that is an ObjectId.
-fn id_in(value: &Value<'_>) -> Option<[u8; 12]>
-    ensures { result ≡ spec.id_in (value_view value.now) }
-{
-    id_of(as_members(value)?)
 }
 
 /// Returns the DBPointer of these members.
@@ -148,17 +124,29 @@ fn pointer_of<'a>(
     Ok(Some(Bson::DbPointer { namespace, id }))
 }
 
-/// Returns the value of an object of `$dbPointer`.
-fn db_pointer<'a>(
+/// Returns the value that an object stands for in an object of this form.
+#[tactic(auto, using(crate::proofs::FormRows::of_object))]
+fn object_value<'a>(
     alloc: Global,
+    form: Form,
     members: &[(&'a str, Value<'a>)],
 ) -> Result<Option<Bson>, AllocError>
     ensures { IfOk result (λ read. option_map value_of read
-        ≡ form_value forms.DbPointer (members_view members.now)) }
+        ≡ member_value form (object (members_view members.now))) }
 {
-    match object_alone(members, "$dbPointer") {
-        Some(inner) => pointer_of(alloc, inner),
-        None => Ok(None),
+    match form {
+        Form::Binary => match texts_alone(members, "base64", "subType") {
+            Some((base64, subtype)) => binary_of(alloc, base64, subtype),
+            None => Ok(None),
+        },
+        Form::Regex => match texts_alone(members, "pattern", "options") {
+            Some((pattern, options)) => regex_of(alloc, pattern, options),
+            None => Ok(None),
+        },
+        Form::DbPointer => pointer_of(alloc, members),
+        Form::Timestamp => Ok(timestamp(members)),
+        Form::DateTime => Ok(long_date(members)),
+        _ => Ok(None),
     }
 }
 
@@ -167,6 +155,7 @@ fn db_pointer<'a>(
 /// # Errors
 ///
 /// Returns `AllocError` if memory is refused.
+#[tactic(auto, using(crate::proofs::FormRows::as_text, crate::proofs::FormRows::as_members))]
 pub(crate) fn read_form<'a>(
     alloc: Global,
     form: Form,
@@ -175,22 +164,14 @@ pub(crate) fn read_form<'a>(
     ensures { IfOk result (λ read. option_map value_of read
         ≡ form_value form (members_view members.now)) }
 {
-    match form {
-        Form::ObjectId => Ok(wrapped::object_id(members)),
-        Form::Symbol => symbol(alloc, members),
-        Form::Int32 => Ok(wrapped::int32(members)),
-        Form::Int64 => Ok(wrapped::int64(members)),
-        Form::Double => Ok(wrapped::double(members)),
-        Form::Decimal128 => Ok(wrapped::decimal128(members)),
-        Form::Binary => binary(alloc, members),
-        Form::Uuid => uuid(alloc, members),
-        Form::Code => code(alloc, members),
-        Form::Timestamp => Ok(wrapped::timestamp(members)),
-        Form::Regex => regex(alloc, members),
-        Form::DbPointer => db_pointer(alloc, members),
-        Form::DateTime => Ok(wrapped::date_time(members)),
-        Form::MinKey => Ok(wrapped::min_key(members)),
-        Form::MaxKey => Ok(wrapped::max_key(members)),
-        Form::Undefined => Ok(wrapped::undefined(members)),
+    let Some(value) = sole_value(members, form.name()) else {
+        return Ok(None);
+    };
+    if let Some(text) = value.as_str() {
+        return text_value(alloc, form, text);
     }
+    if let Some(members) = as_members(value) {
+        return object_value(alloc, form, members);
+    }
+    Ok(word_value(form, value))
 }

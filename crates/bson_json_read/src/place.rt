@@ -124,26 +124,33 @@ fn follow(reader: &mut Reader<'_>, path: &[usize], at_name: bool) {
     }
 }
 
-/// Passes over what stands before a fault of a text that is JSON.
-fn pass_to(reader: &mut Reader<'_>, fault: &JsonFault) {
-    match fault.cause {
-        Cause::RepeatedName | Cause::ZeroInName => follow(reader, &fault.path, true),
-        _ => follow(reader, &fault.path, false),
-    }
-}
-
 impl JsonFault {
+    /// Returns the offset of the fault in `text`, by a reader that stands at its beginning.
+    fn offset_by(
+        &self,
+        alloc: Global,
+        text: &[u8],
+        reader: &mut Reader<'_>,
+    ) -> Result<usize, AllocError>
+        ensures { IfOk result (λ n. n ≤ length text.now) }
+    {
+        match self.cause {
+            Cause::NotJson => return misfit(alloc, text, reader),
+            Cause::RepeatedName | Cause::ZeroInName => follow(reader, &self.path, true),
+            _ => follow(reader, &self.path, false),
+        }
+        Ok(reader.offset().min(text.len()))
+    }
+
     /// Returns the offset of the fault in `text`, as `place` does its line and column.
     pub(crate) fn offset(&self, alloc: Global, text: &str) -> Result<usize, AllocError>
         ensures { IfOk result (λ n. n ≤ length text.now) }
     {
         let mut scratch = Scratch::new(alloc);
-        let mut reader = Reader::new(text, &mut scratch)?;
-        if self.cause == Cause::NotJson {
-            return misfit(alloc, text.as_bytes(), &mut reader);
+        match Reader::new(text, &mut scratch) {
+            Ok(mut reader) => self.offset_by(alloc, text.as_bytes(), &mut reader),
+            Err(error) => Err(error),
         }
-        pass_to(&mut reader, self);
-        Ok(reader.offset().min(text.len()))
     }
 
     /// Returns where in `text` the fault is, which is one of reading this text: at the value at

@@ -64,12 +64,12 @@ fn first_place(size: usize, code: u64) -> usize
     (code >> 32) as usize & (size - 1)
 }
 
-/// Makes a table one of so many empty places. Returns `None` if memory is refused.
-fn empty(len: usize, places: &mut Vec<u64>) -> Option<()>
+/// Makes a table one of so many empty places. Returns false if memory is refused.
+fn empty(len: usize, places: &mut Vec<u64>) -> bool
     ensures { IsPacked places.new.items }
 {
     places.clear();
-    places.resize(len, 0).ok()
+    places.resize(len, 0).is_ok()
 }
 
 /// Puts a code into the first empty place of those from `first` on. Returns false if none of them is
@@ -103,15 +103,15 @@ impl Seen {
         }
     }
 
-    /// Begins another text, of at most so many names. Returns `None` if memory is refused.
-    pub(crate) fn begin_text(&mut self, names: usize) -> Option<()> {
+    /// Begins another text, of at most so many names. Returns false if memory is refused.
+    pub(crate) fn begin_text(&mut self, names: usize) -> bool {
         self.origin = self.origin.wrapping_add(1 << 32);
         let size = self.places.len().saturating_sub(PLACES);
         if self.count.saturating_add(names) <= size / 2 {
-            return Some(());
+            return true;
         }
         if names > 1 << 40 {
-            return None;
+            return false;
         }
         self.count = 0;
         let size = (2 * names).max(LEAST).next_power_of_two();

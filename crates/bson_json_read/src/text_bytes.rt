@@ -120,7 +120,7 @@ pub(crate) fn write_direct(
         × IsWritten d None out.new.items }
 {
     match text_of(bytes) {
-        Ok(text) => write_text(alloc, text, scratch, seen, out).is_some(),
+        Ok(text) => write_text(alloc, text, scratch, seen, out),
         Err(_) => false,
     }
 }

@@ -6,7 +6,7 @@ use bson_doc::DocRefusal;
 use std::fmt;
 
 /// Why an input of several texts isn't read on, and where.
-#[derive(Clone, Copy, Debug, PartialEq, Eq)]
+#[derive(Clone, Copy, PartialEq, Eq)]
 pub struct TextFault {
     pub cause: Cause,
     /// The place that `JsonFault::place` tells of a text. Of one that isn't UTF-8 it is the first byte
@@ -24,6 +24,12 @@ impl fmt::Display for TextFault {
         let number = cause.number();
         let Place { line, column } = place;
         write!(f, "fault {number} at line {line}, column {column}: {cause}")
+    }
+}
+
+impl fmt::Debug for TextFault {
+    fn fmt<W: fmt::Write>(&self, f: &mut fmt::Formatter<W>) -> fmt::Result {
+        fmt::Display::fmt(self, f)
     }
 }
 

@@ -1,7 +1,7 @@
 //! Reads JSON values, and those inside them.
 
-ghost use Rattle.std.specs.Prelude.{◌≡◌, ◌∷◌, [], ◌++◌, IfErr, IfOk, MatchResult, Ok, OnOk};
-ghost use Rattle.std.specs.Prelude.{map, option_map, string_bytes};
+ghost use Rattle.std.specs.Prelude.{◌≡◌, ◌∷◌, [], ◌++◌, IfErr, IfOk, IsTrue, MatchResult, Ok, OnOk};
+ghost use Rattle.std.specs.Prelude.{map, option_map};
 ghost use Rattle.json.specs.Json as json_spec;
 ghost use Rattle.json.specs.Value.{items_view, members_view, value_view};
 ghost use Rattle.bson_doc.specs.{value_of};
@@ -21,7 +21,7 @@ use crate::owned::read_form;
 use crate::zero::has_zero;
 use bson_doc::{Array, Bson, Document};
 use json::Value;
-use std::alloc::{AllocError, Global};
+use std::alloc::Global;
 
 /// Returns the value of a number: without point and exponent the smallest integer that holds it, and
 /// else the nearest double.
@@ -85,26 +85,31 @@ fn scope_index<'a>(members: &[(&'a str, Value<'a>)]) -> usize
     }
 }
 
-/// Puts a pair whose name is new behind the others.
+/// Appends a pair whose name is new. Returns false if memory is refused.
 #[tactic(auto, using(crate::proofs::Walking::put_last))]
-fn insert_last(document: &mut Document, name: String, value: Bson) -> Result<(), AllocError>
-    requires { value_named (string_bytes name) document.old ≡ None }
-    ensures { OnOk result
-        (document.new ≡ document.old ++ (string_bytes name, value_of value) ∷ []) }
+fn append(alloc: Global, document: &mut Document, name: &str, value: Bson) -> bool
+    requires { value_named name.now document.old ≡ None }
+    ensures { IsTrue result
+        → document.new ≡ document.old ++ (name.now, value_of value) ∷ [] }
 {
-    match document.insert(name, value) {
-        Ok(_) => Ok(()),
-        Err(_) => Err(AllocError),
-    }
+    let Ok(name) = String::from_str(alloc, name) else {
+        drop(value);
+        return false;
+    };
+    let inserted = document.insert(name, value);
+    let done = inserted.is_ok();
+    drop(inserted);
+    done
 }
 
-/// Appends a pair whose name is new.
-fn append(alloc: Global, document: &mut Document, name: &str, value: Bson) -> Result<(), AllocError>
-    requires { value_named name.now document.old ≡ None }
-    ensures { OnOk result (document.new ≡ document.old ++ (name.now, value_of value) ∷ []) }
+/// Appends an item. Returns false if memory is refused.
+fn push(values: &mut Vec<Bson>, value: Bson) -> bool
+    ensures { IsTrue result → values.new.items ≡ values.old.items ++ value ∷ [] }
 {
-    let name = String::from_str(alloc, name)?;
-    insert_last(document, name, value)
+    let pushed = values.push(value);
+    let done = pushed.is_ok();
+    drop(pushed);
+    done
 }
 
 /// Returns the value of an object that has the name of this form.
@@ -165,10 +170,12 @@ fn read_pair<'a>(
         return Err(JsonFault::here(alloc, cause).within(index));
     }
     match read_value(alloc, value, room) {
-        Ok(value) => match append(alloc, document, name, value) {
-            Ok(()) => Ok(()),
-            Err(_) => Err(JsonFault::here(alloc, Cause::OutOfMemory)),
-        },
+        Ok(value) => {
+            if !append(alloc, document, name, value) {
+                return Err(JsonFault::here(alloc, Cause::OutOfMemory));
+            }
+            Ok(())
+        }
         Err(fault) => Err(fault.within(index)),
     }
 }
@@ -213,10 +220,12 @@ fn read_item<'a>(
 {
     let index = values.len();
     match read_value(alloc, value, room) {
-        Ok(value) => match values.push(value) {
-            Ok(()) => Ok(()),
-            Err(_) => Err(JsonFault::here(alloc, Cause::OutOfMemory)),
-        },
+        Ok(value) => {
+            if !push(values, value) {
+                return Err(JsonFault::here(alloc, Cause::OutOfMemory));
+            }
+            Ok(())
+        }
         Err(fault) => Err(fault.within(index)),
     }
 }
