@@ -1,5 +1,8 @@
 pub mod Fates
 pub mod Faults
 pub mod Told
+pub mod Reaching
+pub mod Recording
+pub mod Marks
 -- the words that clauses of other crates cite
 pub use Rattle.proxy.specs.Fates.{Asked, Becomes, IsAsked, IsFate}

@@ -21,6 +21,7 @@ mod event_loop;
 mod fate;
 mod fault;
 mod held_link;
+mod marks;
 mod message;
 mod options;
 mod pair;

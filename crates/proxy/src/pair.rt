@@ -4,6 +4,7 @@ use crate::direction::Direction;
 use crate::ending::{Ending, Side};
 use crate::fate::{Fate, fate_of};
 use crate::held_link::HeldLink;
+use crate::marks::Marks;
 use crate::sink::Sink;
 use crate::socket::Socket;
 use crate::watch::Watches;
@@ -17,13 +18,6 @@ use std::time::Clock;
 
 /// The most steps of a turn.
 const STEPS: u32 = 16;
-
-/// A request whose reply doesn't go on whole, and what becomes of that.
-#[derive(Clone, Copy)]
-struct Mark {
-    id: i32,
-    flow: Flow,
-}
 
 /// What a turn came to.
 #[derive(Clone, Copy)]
@@ -58,7 +52,7 @@ pub struct Pair {
     connecting: bool,
     watches: Option<Watches>,
     /// What becomes of replies that don't go on whole.
-    marks: Vec<Mark>,
+    marks: Marks,
     /// A request is held for some time.
     delayed: bool,
 }
@@ -83,7 +77,7 @@ impl Pair {
             relay,
             connecting: true,
             watches: Watches::if_wanted(alloc, number, watched),
-            marks: Vec::new(alloc),
+            marks: Marks::new(alloc),
             delayed: false,
         })
     }
@@ -159,22 +153,6 @@ impl Pair {
         }
     }
 
-    /// Notes what becomes of the reply to a request.
-    fn mark(&mut self, id: i32, flow: Flow) -> Result<(), AllocError> {
-        match flow {
-            Flow::Whole | Flow::Held(_) => Ok(()),
-            Flow::Cut(_) | Flow::Dropped => Ok(self.marks.push(Mark { id, flow })?),
-        }
-    }
-
-    /// Returns what becomes of the reply to the request with this id, and forgets it.
-    fn take_mark(&mut self, id: i32) -> Flow {
-        match self.marks.iter().position(|mark| mark.id == id) {
-            Some(i) => self.marks.remove(i).flow,
-            None => Flow::Whole,
-        }
-    }
-
     /// Lets go of the reply that is held, which has this size, and answers this request.
     fn drop_reply<R: Files + Clock, W: Write>(
         &mut self,
@@ -199,7 +177,7 @@ impl Pair {
             Some(frame) => (frame.header().response_to, frame.as_bytes().len()),
             None => return Ok(()),
         };
-        match self.take_mark(to) {
+        match self.marks.take(to) {
             Flow::Whole | Flow::Held(_) => self.relay.far_mut().pass(),
             Flow::Cut(count) => {
                 self.show(self.relay.far(), Direction::Back, count, sink, out)?;
@@ -239,7 +217,7 @@ impl Pair {
     ) -> io::Result<Option<Outcome>> {
         match fate {
             Fate::Pass(flow) => {
-                self.mark(id, *flow)?;
+                self.marks.put(id, *flow)?;
                 self.relay.near_mut().pass();
             }
             Fate::Delay(millis) => {

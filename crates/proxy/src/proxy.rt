@@ -1,6 +1,8 @@
 //! Accepts connections, and passes their bytes to a server and back.
 
-ghost use Rattle.std.specs.Prelude.{◌≡◌};
+ghost use Rattle.std.specs.Prelude.{◌≡◌, ◌↔◌, IsTrue};
+ghost use Rattle.std.specs.IoError.{error_kind, raw_os_error};
+ghost use Rattle.proxy.specs.Reaching.{IsUnreached, LeavesNone};
 
 use crate::event_loop::EventLoop;
 use crate::pairs::{Pairs, ROOM};
@@ -27,7 +29,9 @@ const ENOBUFS: i32 = 105;
 
 /// Returns true if the system tells by an error of this number that it has nothing left for one more
 /// connection.
-fn leaves_none(code: Option<i32>) -> bool {
+fn leaves_none(code: Option<i32>) -> bool
+    ensures { IsTrue result ↔ LeavesNone code }
+{
     matches!(code, Some(ENOMEM | ENFILE | EMFILE | ENOBUFS))
 }
 
@@ -41,7 +45,9 @@ enum Unreached {
 }
 
 /// Returns what it means for a connection that came that connecting to the server failed so.
-fn why_unreached(error: &io::Error) -> Unreached {
+fn why_unreached(error: &io::Error) -> Unreached
+    ensures { IsUnreached (error_kind error.now) (raw_os_error error.now) result }
+{
     let failure = IoFailure::of(error);
     if leaves_none(error.raw_os_error()) {
         Unreached::NoneLeft(failure)

@@ -1,6 +1,9 @@
 //! Appends records of the messages that pass to a file.
 
-ghost use Rattle.std.specs.Prelude.{◌≡◌, is_none};
+ghost use Rattle.std.specs.Prelude.{◌≡◌, [], IfOk, OnOk, is_none};
+ghost use Rattle.std.specs.Io.KnownBytes.{Keeps};
+ghost use Rattle.wire_frames.specs.{frame_bytes};
+ghost use Rattle.proxy.specs.Recording.{IsRecorded, log_of, recorded};
 
 use crate::direction::Direction;
 use crate::record_buf::{RecordBuf, recorded_number};
@@ -16,7 +19,9 @@ use wire_frames::{RawFrame, RecordHead};
 const ROOM: usize = 65_536;
 
 /// Returns the direction as a record has it.
-fn recorded_direction(direction: Direction) -> wire_frames::Direction {
+fn recorded_direction(direction: Direction) -> wire_frames::Direction
+    ensures { result ≡ recorded direction }
+{
     match direction {
         Direction::There => wire_frames::Direction::ToServer,
         Direction::Back => wire_frames::Direction::FromServer,
@@ -81,7 +86,13 @@ impl<'r, R: Files + Clock> Recorder<'r, R> {
         number: u64,
         direction: Direction,
         frame: RawFrame<'_>,
-    ) -> io::Result<bool> {
+    ) -> io::Result<bool>
+        ensures { IfOk result (λ ends. IsRecorded
+            (log_of (R.File.contents self.old.file) self.old.waiting.bytes.items)
+            (log_of (R.File.contents self.new.file) self.new.waiting.bytes.items)
+            self.old.waiting.left self.new.waiting.left number direction
+            (frame_bytes frame.entry) ends) }
+    {
         if self.is_full() {
             return Ok(false);
         }
@@ -103,7 +114,13 @@ impl<'r, R: Files + Clock> Recorder<'r, R> {
     /// # Errors
     ///
     /// Returns an error if the file can't be written.
-    pub fn flush(&mut self) -> io::Result<()> {
+    pub fn flush(&mut self) -> io::Result<()>
+        ensures written { OnOk result (Keeps
+            (log_of (R.File.contents self.old.file) self.old.waiting.bytes.items)
+            (log_of (R.File.contents self.new.file) self.new.waiting.bytes.items)) }
+        ensures none_waits { self.new.waiting.bytes.items ≡ [] }
+        ensures left { self.new.waiting.left ≡ self.old.waiting.left }
+    {
         if self.waiting.bytes.is_empty() {
             return Ok(());
         }

@@ -1,5 +1,10 @@
 //! What the messages that pass are given to: some show them, and some record them.
 
+ghost use Rattle.std.specs.Prelude.{Bool, IfSome, IsSomeAnd, OnOk};
+ghost use Rattle.std.specs.Io.KnownBytes.{Keeps};
+ghost use Rattle.wire_frames.specs.{frame_bytes};
+ghost use Rattle.proxy.specs.Recording.{IsRecorded, log_of};
+
 use crate::direction::Direction;
 use crate::fault::ProxyFault;
 use crate::message::{write_json_line, write_message};
@@ -57,7 +62,13 @@ impl<'r, R: Files + Clock> Sink<'r, R> {
         direction: Direction,
         frame: RawFrame<'_>,
         out: &mut W,
-    ) -> io::Result<()> {
+    ) -> io::Result<()>
+        ensures recorded { OnOk result (IfSome self.old.recorder (λ old.
+            IsSomeAnd self.new.recorder (λ new. (ends : Bool) × IsRecorded
+            (log_of (R.File.contents old.file) old.waiting.bytes.items)
+            (log_of (R.File.contents new.file) new.waiting.bytes.items)
+            old.waiting.left new.waiting.left number direction (frame_bytes frame.entry) ends))) }
+    {
         let Some(recorder) = &mut self.recorder else {
             return Ok(());
         };
@@ -81,7 +92,13 @@ impl<'r, R: Files + Clock> Sink<'r, R> {
         direction: Direction,
         frame: RawFrame<'_>,
         out: &mut W,
-    ) -> io::Result<()> {
+    ) -> io::Result<()>
+        ensures recorded { OnOk result (IfSome self.old.recorder (λ old.
+            IsSomeAnd self.new.recorder (λ new. (ends : Bool) × IsRecorded
+            (log_of (R.File.contents old.file) old.waiting.bytes.items)
+            (log_of (R.File.contents new.file) new.waiting.bytes.items)
+            old.waiting.left new.waiting.left number direction (frame_bytes frame.entry) ends))) }
+    {
         self.record(number, direction, frame, out)?;
         match self.show {
             Show::Nothing => Ok(()),
@@ -121,7 +138,12 @@ impl<'r, R: Files + Clock> Sink<'r, R> {
     /// # Errors
     ///
     /// Returns an error if the file can't be written.
-    pub fn flush(&mut self) -> io::Result<()> {
+    pub fn flush(&mut self) -> io::Result<()>
+        ensures written { OnOk result (IfSome self.old.recorder (λ old.
+            IsSomeAnd self.new.recorder (λ new. Keeps
+            (log_of (R.File.contents old.file) old.waiting.bytes.items)
+            (log_of (R.File.contents new.file) new.waiting.bytes.items)))) }
+    {
         match &mut self.recorder {
             Some(recorder) => recorder.flush(),
             None => Ok(()),
