@@ -1,6 +1,7 @@
 //! Runs what the command line asks for, and returns the exit status.
-ghost use Rattle.std.specs.Prelude.{◌≡◌, ◌⊎◌};
+ghost use Rattle.std.specs.Prelude.{◌≡◌, Err};
 ghost use Rattle.bsonproxy.specs.ExitStatus.{IsStatusFor, IsStatusOfReplay, IsStatusOfServe};
+ghost use Rattle.bsonproxy.specs.Serving.{MayEnd, script_file, serve_status as status_of_serve};
 
 use crate::choice::Choice;
 use crate::fault::ServeFault;
@@ -34,8 +35,13 @@ fn run_proxy<R: Files + Input + Net + Clock + AllocGlobal, W: Write>(
     rt: &R,
     options: Options<'_>,
     out: &mut W,
-) -> Result<(), ServeFault> {
-    let script = read_script(rt, rt.alloc(), options.script)?;
+) -> Result<(), ServeFault>
+    ensures { MayEnd (script_file options.entry) result }
+{
+    let script = match read_script(rt, rt.alloc(), options.script) {
+        Ok(script) => script,
+        Err(fault) => return Err(fault),
+    };
     let ended = match options.share {
         Some(most) => shared_proxy::run(rt, rt.alloc(), options, script, most as usize, out),
         None => proxy::run(rt, rt.alloc(), options, script, out),
@@ -48,7 +54,7 @@ fn run_proxy<R: Files + Input + Net + Clock + AllocGlobal, W: Write>(
 
 /// Returns the exit status of a proxy that stopped early.
 fn fault_status(fault: &ServeFault) -> u8
-    ensures { (result ≡ 2) ⊎ (result ≡ 3) ⊎ (result ≡ 4) }
+    ensures { result ≡ status_of_serve (Err fault.now) }
 {
     match fault {
         ServeFault::Script(_) | ServeFault::Proxy(ProxyFault::Itself) => USAGE,
@@ -68,7 +74,7 @@ fn serve_status<R: Files + Input + Net + Clock + Print + Eprint + AllocGlobal>(
     rt: &R,
     options: Options<'_>,
 ) -> u8
-    ensures { IsStatusOfServe result }
+    ensures { IsStatusOfServe options.entry result }
 {
     let mut writer = Noted::new(io::writer(rt));
     let Err(fault) = run_proxy(rt, options, &mut writer) else {
