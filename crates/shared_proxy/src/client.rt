@@ -1,8 +1,5 @@
 //! The connection of a client, and its steps.
 
-ghost use Rattle.std.specs.Prelude.{◌≡◌, IfOk, IsSome, true};
-ghost use Rattle.wire_share.specs.{new_downstream};
-
 use crate::leave::Leave;
 use crate::line::{Line, Step};
 use proxy::{Sink, Watches};
@@ -13,7 +10,7 @@ use std::io;
 use std::io::Write;
 use std::rt::Files;
 use std::time::Clock;
-use wire_share::Downstream;
+use wire_share::Core;
 use wire_stream::{Moved, Pulled};
 
 /// What a script says of the request that waits.
@@ -41,19 +38,14 @@ impl Steering {
     }
 }
 
-/// The connection of a client.
+/// The connection of a client, whose requests stand in the core under the same number.
 #[derive(Drop)]
 pub struct Client {
-    pub downstream: Downstream,
     pub line: Line,
-    /// The number of the connection to the server that it alone uses, if there is one.
-    pub kept: Option<u64>,
     /// The number of the connection to the server over which its request waits to be passed on, if it
     /// does.
     pub waits_at: Option<u64>,
     pub steering: Steering,
-    /// It is closed once what is to be sent was.
-    leaving: bool,
     watches: Option<Watches>,
 }
 
@@ -66,45 +58,37 @@ fn see_back(watches: &mut Option<Watches>, bytes: &[u8], n: usize) {
     }
 }
 
+/// Returns what a step of a client comes to where nothing is to be sent, and `None` if it is to
+/// receive. One whose own connection to the server is lost, and that asks for nothing, is over.
+fn standing(core: &Core, number: u64) -> Option<Step> {
+    let Some(client) = core.client(number) else {
+        return Some(Step::Over(Leave::Ended));
+    };
+    if let Some(leave) = Leave::of_state(client.state()) {
+        return Some(Step::Over(leave));
+    }
+    if client.awaited().is_some() {
+        return Some(Step::Waits);
+    }
+    if client.asks() {
+        return Some(Step::Ready);
+    }
+    match client.kept() {
+        Some(kept) if core.server(kept).is_none() => Some(Step::Over(Leave::Ended)),
+        _ => None,
+    }
+}
+
 impl Client {
     /// Makes the client of the connection of this number, whose messages are shown or recorded if
-    /// `watched` is true.
-    ///
-    /// # Errors
-    ///
-    /// Returns `AllocError` if memory runs out. The connection is closed then.
-    pub fn new(alloc: Global, number: u64, line: Line, watched: bool) -> Result<Client, AllocError>
-        ensures { IfOk result (λ c. c.downstream ≡ new_downstream number) }
-    {
-        Ok(Client {
-            downstream: Downstream::new(alloc, number)?,
+    /// `watched` is true. It takes no memory.
+    pub fn new(alloc: Global, number: u64, line: Line, watched: bool) -> Client {
+        Client {
             line,
-            kept: None,
             waits_at: None,
             steering: Steering::new(alloc),
-            leaving: false,
             watches: watched.then_some(Watches::new(alloc, number)),
-        })
-    }
-
-    /// Returns true if its reply is awaited of the connection to the server of this number.
-    pub fn awaits(&self, upstream: u64) -> bool {
-        matches!(self.downstream.awaited(), Some(awaited) if awaited.upstream == upstream)
-    }
-
-    /// Returns true if a request of it wasn't passed on yet, and nothing waits to be sent to it.
-    pub fn asks(&self) -> bool {
-        self.downstream.request().is_some()
-            && self.downstream.output().is_empty()
-            && self.steering.reply.is_empty()
-    }
-
-    /// Has the connection closed behind what waits to be sent, since the one to the server that it
-    /// alone uses is lost.
-    pub fn finish(&mut self)
-        ensures { self.new.leaving ≡ true }
-    {
-        self.leaving = true;
+        }
     }
 
     /// Notes the bytes that came and weren't taken yet, if messages are shown or recorded.
@@ -131,12 +115,12 @@ impl Client {
         }
     }
 
-    /// Sends some of what the downstream has to send.
-    fn send(&mut self) -> Step {
-        match self.line.send(self.downstream.output()) {
+    /// Sends some of what the core has to send to the client.
+    fn send(&mut self, core: &mut Core, number: u64) -> Step {
+        match self.line.send(core.output(number)) {
             Ok(Moved::Bytes(n)) => {
-                see_back(&mut self.watches, self.downstream.output(), n);
-                self.downstream.sent(n);
+                see_back(&mut self.watches, core.output(number), n);
+                core.sent(number, n);
                 Step::Again
             }
             Ok(Moved::Later) => Step::Waits,
@@ -157,8 +141,8 @@ impl Client {
         }
     }
 
-    /// Receives bytes, or tells the downstream that no more come.
-    fn pull(&mut self) -> Step {
+    /// Receives bytes, or tells the core that no more come.
+    fn pull(&mut self, core: &mut Core, number: u64) -> Step {
         match self.line.pull() {
             Ok(Pulled::Bytes) => {
                 self.see_there();
@@ -167,19 +151,19 @@ impl Client {
             Ok(Pulled::Later) if self.steering.delayed => Step::Waits,
             Ok(Pulled::Later) => self.line.idle(),
             Ok(Pulled::End) => {
-                self.downstream.end();
+                core.end(number);
                 Step::Again
             }
             Err(leave) => Step::Over(leave),
         }
     }
 
-    /// Takes bytes that came, or receives some.
-    fn receive(&mut self) -> Result<Step, AllocError> {
+    /// Has the core take bytes that came, or receives some.
+    fn receive(&mut self, core: &mut Core, number: u64) -> Result<Step, AllocError> {
         if self.line.bytes().is_empty() {
-            return Ok(self.pull());
+            return Ok(self.pull(core, number));
         }
-        match self.downstream.feed(self.line.bytes()) {
+        match core.take(number, self.line.bytes()) {
             Ok(n) => {
                 self.line.used(n);
                 Ok(Step::Again)
@@ -188,44 +172,25 @@ impl Client {
         }
     }
 
-    /// Returns what a step comes to where nothing is to be sent, and `None` if it is to receive.
-    fn standing(&self) -> Option<Step>
-        ensures { self.now.leaving ≡ true → IsSome result }
-    {
-        if let Some(leave) = Leave::of_state(self.downstream.state()) {
-            return Some(Step::Over(leave));
-        }
-        if self.leaving {
-            return Some(Step::Over(Leave::Ended));
-        }
-        if self.downstream.awaited().is_some() {
-            return Some(Step::Waits);
-        }
-        if self.downstream.request().is_some() {
-            return Some(Step::Ready);
-        }
-        None
-    }
-
-    /// Takes a step: sends what is to be sent, or receives. Returns `Ready` if a request is to be
-    /// passed on.
+    /// Takes a step of the client of this number: sends what is to be sent, or receives. Returns
+    /// `Ready` if a request is to be passed on.
     ///
     /// # Errors
     ///
     /// Returns `AllocError` if memory runs out.
-    pub fn step(&mut self) -> Result<Step, AllocError> {
+    pub fn step(&mut self, core: &mut Core, number: u64) -> Result<Step, AllocError> {
         if let Some(leave) = self.line.cut() {
             return Ok(Step::Over(leave));
         }
         if !self.steering.reply.is_empty() {
             return Ok(self.send_reply());
         }
-        if !self.downstream.output().is_empty() {
-            return Ok(self.send());
+        if !core.output(number).is_empty() {
+            return Ok(self.send(core, number));
         }
-        match self.standing() {
+        match standing(core, number) {
             Some(step) => Ok(step),
-            None => self.receive(),
+            None => self.receive(core, number),
         }
     }
 }

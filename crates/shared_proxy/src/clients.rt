@@ -1,9 +1,7 @@
 //! The connections of clients, by their numbers.
 
-ghost use Rattle.std.specs.Prelude.{◌≡◌, IsSomeAnd, OnOk, nat_eq};
+ghost use Rattle.std.specs.Prelude.{◌≡◌, IsSome, OnOk, nat_eq};
 ghost use Rattle.indexmap.specs.IndexMap.{get};
-ghost use Rattle.wire_stream.specs.{Rose};
-ghost use Rattle.wire_share.specs.{new_downstream};
 
 use crate::client::Client;
 use crate::leave::Leave;
@@ -17,19 +15,13 @@ use std::io::Write;
 /// The most clients at once. A connection to the server takes as many calls.
 pub const ROOM: usize = 1024;
 
-/// How many clients came, and how many are gone, both counted up to 2^64 - 1.
-#[derive(Clone, Copy, Debug)]
-struct Counts {
-    opened: u64,
-    ended: u64,
-}
-
-/// The connections of clients, by their numbers.
+/// The connections of clients, by the numbers that they have in the core.
 #[derive(Drop)]
 pub struct Clients {
     alloc: Global,
     clients: IndexMap<u64, Client>,
-    counts: Counts,
+    /// How many are gone, counted up to 2^64 - 1.
+    ended: u64,
     watching: Watching,
 }
 
@@ -39,10 +31,7 @@ impl Clients {
         Clients {
             alloc,
             clients: IndexMap::new(alloc),
-            counts: Counts {
-                opened: 0,
-                ended: 0,
-            },
+            ended: 0,
             watching,
         }
     }
@@ -53,15 +42,10 @@ impl Clients {
     }
 
     /// Returns how many are gone.
-    pub fn ended(&self) -> u64 {
-        self.counts.ended
-    }
-
-    /// Returns the number that the next one has.
-    pub fn next(&self) -> u64
-        ensures { Rose self.now.counts.opened result }
+    pub fn ended(&self) -> u64
+        ensures { result ≡ self.now.ended }
     {
-        self.counts.opened.saturating_add(1)
+        self.ended
     }
 
     /// Returns true if it is told that connections are new, and why they are over.
@@ -74,19 +58,15 @@ impl Clients {
         self.clients.get_mut(&number)
     }
 
-    /// Adds a client, under the next number, and writes that it is new, if that is told.
+    /// Adds the client of this number, and writes that it is new, if that is told.
     ///
     /// # Errors
     ///
     /// Returns an error if memory runs out or writing fails.
-    pub fn open<W: Write>(&mut self, line: Line, out: &mut W) -> io::Result<()>
-        ensures rose { OnOk result (Rose self.old.counts.opened self.new.counts.opened) }
-        ensures opened { OnOk result (IsSomeAnd (get nat_eq self.new.clients self.new.counts.opened)
-            (λ c. c.downstream ≡ new_downstream self.new.counts.opened)) }
+    pub fn open<W: Write>(&mut self, number: u64, line: Line, out: &mut W) -> io::Result<()>
+        ensures { OnOk result (IsSome (get nat_eq self.new.clients number)) }
     {
-        let number = self.next();
-        let client = Client::new(self.alloc, number, line, self.watching.watched)?;
-        self.counts.opened = number;
+        let client = Client::new(self.alloc, number, line, self.watching.watched);
         let _ = self.clients.insert(number, client)?;
         if self.watching.told {
             writeln!(out, "{number} new")?;
@@ -112,12 +92,10 @@ impl Clients {
         number: u64,
         leave: Leave,
         out: &mut W,
-    ) -> io::Result<Option<Client>>
-        ensures { self.new.counts.opened ≡ self.old.counts.opened }
-    {
+    ) -> io::Result<Option<Client>> {
         let client = self.clients.swap_remove(&number);
         if client.is_some() {
-            self.counts.ended = self.counts.ended.saturating_add(1);
+            self.ended = self.ended.saturating_add(1);
             self.tell(number, leave, out)?;
         }
         Ok(client)

@@ -1,11 +1,7 @@
 //! Accepts clients, and connects to the server.
 
-use crate::clients::Clients;
 use crate::due::Side;
-use crate::leave::Leave;
 use crate::line::Line;
-use crate::server::Use;
-use crate::servers::Servers;
 use mio::net::TcpStream;
 use mio::{Events, Registry};
 use proxy::{Socket, drawn_cut};
@@ -94,17 +90,17 @@ impl Connector {
         Ok(line)
     }
 
-    /// Accepts the client that has the next number among these, if one waits. If it can't be
-    /// registered, it is accepted once more after a pause.
+    /// Accepts the client that is to have this number, if one waits and there is room for it. If it
+    /// can't be registered, it is accepted once more after a pause.
     ///
     /// # Errors
     ///
     /// Returns `AllocError` if memory runs out.
-    pub fn accept(&mut self, clients: &Clients) -> Result<Option<Line>, AllocError> {
-        let Some(mut stream) = self.acceptor.accept(clients.has_room()) else {
+    pub fn accept(&mut self, number: u64, has_room: bool) -> Result<Option<Line>, AllocError> {
+        let Some(mut stream) = self.acceptor.accept(has_room) else {
             return Ok(None);
         };
-        let token = Side::Client(clients.next()).token();
+        let token = Side::Client(number).token();
         if let Err(error) = self.acceptor.register(&mut stream, token) {
             self.acceptor.take_back(stream, IoFailure::of(&error));
             return Ok(None);
@@ -118,29 +114,21 @@ impl Connector {
         Line::of_server(self.alloc, Socket::new(self.alloc, stream)?, cut)
     }
 
-    /// Opens a connection to the server that is used so. If that fails, a request that needs none of
-    /// its own, and one that begins a transaction, goes over a shared one, if there is one.
+    /// Connects to the server, and returns the line of the connection, which is to have this number,
+    /// or why that failed.
     ///
     /// # Errors
     ///
     /// Returns `AllocError` if memory runs out.
-    pub fn open(
+    pub fn connect(
         &self,
         net: &impl Net,
-        servers: &mut Servers,
-        used: Use,
-    ) -> Result<Result<u64, Leave>, AllocError> {
-        let number = servers.next();
+        number: u64,
+    ) -> Result<Result<Line, IoFailure>, AllocError> {
         let token = Side::Server(number).token();
         match self.acceptor.connect(net, self.upstream, token) {
-            Ok(stream) => {
-                let line = self.server_line(stream, number)?;
-                Ok(Ok(servers.open(line, used)?))
-            }
-            Err(error) => match servers.least_busy() {
-                Some(other) if matches!(used, Use::Shared | Use::Transaction(_)) => Ok(Ok(other)),
-                _ => Ok(Err(Leave::Unconnected(IoFailure::of(&error)))),
-            },
+            Ok(stream) => Ok(Ok(self.server_line(stream, number)?)),
+            Err(error) => Ok(Err(IoFailure::of(&error))),
         }
     }
 }

@@ -4,7 +4,7 @@ use std::alloc::{AllocError, Global};
 use std::collections::VecDeque;
 
 /// A connection, by its number.
-#[derive(Clone, Copy, Debug, PartialEq, Eq)]
+#[derive(Clone, Copy, PartialEq, Eq)]
 pub enum Side {
     /// That of a client.
     Client(u64),

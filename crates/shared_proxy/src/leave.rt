@@ -9,7 +9,7 @@ use wire_serve::{CloseCause, ConnState};
 use wire_stream::LinkFault;
 
 /// Why a connection is over.
-#[derive(Clone, Copy, Debug, PartialEq, Eq)]
+#[derive(Clone, Copy)]
 pub enum Leave {
     /// The peer ended it, between messages.
     Ended,

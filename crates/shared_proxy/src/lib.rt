@@ -1,19 +1,18 @@
 //! Listens at one address, and passes the requests of all clients on to the server at another one
 //! over few connections.
 //!
-//! What is proved of replies stands in wire_share, whose `Downstream` and `Upstream` this crate has
-//! over sockets: it moves their bytes, and says over which connection a request goes. All
-//! connections are served in one thread.
+//! Over which connection a request goes, who gets a reply, and who is gone with a connection is said
+//! by the `Core` of wire_share, of which its laws are proved. This crate has the sockets: it moves
+//! bytes between them and the core, and tells what it did. All connections are served in one thread.
 //!
-//! Uses wire_share and proxy. Used by bsonwire. Read first: `client`, `server`, `exchange`,
-//! `sharing`, and then `turns`.
+//! Uses wire_share and proxy. Used by bsonproxy. Read first: `client`, `server`, `sharing`, and then
+//! `turns`.
 #![tactic(auto)]
 
 mod client;
 mod clients;
 mod connector;
 mod due;
-mod exchange;
 mod leave;
 mod line;
 mod server;

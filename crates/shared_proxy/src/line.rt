@@ -11,7 +11,7 @@ use wire_frames::RawFrame;
 use wire_stream::{Inlet, Link, Moved, Pulled};
 
 /// What a step over a connection came to.
-#[derive(Clone, Copy, Debug, PartialEq, Eq)]
+#[derive(Clone, Copy)]
 pub enum Step {
     /// Something was done, and more may be.
     Again,
@@ -26,7 +26,7 @@ pub enum Step {
 }
 
 /// What is sent over a connection: which way, how many bytes were, and how many more may be.
-#[derive(Clone, Copy, Debug)]
+#[derive(Clone, Copy)]
 struct Sending {
     direction: Direction,
     count: u64,

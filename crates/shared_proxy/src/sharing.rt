@@ -3,10 +3,9 @@
 use crate::clients::Clients;
 use crate::connector::Connector;
 use crate::due::{Due, Side};
-use crate::exchange::{answer, begun, need, pass_on};
 use crate::leave::Leave;
-use crate::server::{Server, Use};
-use crate::servers::{Place, Servers};
+use crate::server::{Server, is_full};
+use crate::servers::Servers;
 use crate::steering::steer_reply;
 use proxy::{Sink, Watching};
 use sockets::Delays;
@@ -16,61 +15,91 @@ use std::io::Write;
 use std::net::Net;
 use std::rt::Files;
 use std::time::Clock;
-use wire_share::{Need, Routes, SessionId};
+use wire_peer::CallRefusal;
+use wire_share::{Core, GiveRefusal, Need, PassFault, PassRefusal, Place, Use};
 
-/// The clients, the connections to the server, which of both are to take a turn, and of which clients
-/// a request is held.
+/// The core, the lines of its clients and of its connections to the server, which of both are to take
+/// a turn, and of which clients a request is held.
 #[derive(Drop)]
 pub struct Sharing {
+    pub core: Core,
     pub clients: Clients,
     pub servers: Servers,
-    /// Where cursors and transactions are.
-    routes: Routes,
     pub due: Due,
     pub delays: Delays,
     pub connector: Connector,
+}
+
+/// Returns true if a client is closed since memory ran out.
+fn wants_memory(core: &Core, number: u64) -> bool {
+    match core.client(number) {
+        Some(client) => Leave::of_state(client.state()).is_some_and(|leave| leave.wants_memory()),
+        None => false,
+    }
+}
+
+/// Returns true if a client is there and open.
+fn is_open(core: &Core, number: u64) -> bool {
+    match core.client(number) {
+        Some(client) => Leave::of_state(client.state()).is_none(),
+        None => false,
+    }
+}
+
+/// Returns the transaction to which the request of a client belongs that awaits a reply, and the
+/// connection where it lives, if there is one.
+fn transaction_of(core: &Core, number: u64) -> Option<(Need, u64)> {
+    let need = core.client(number)?.wish()?.need;
+    match need {
+        Need::Transaction(_) => Some((need, core.find(need)?)),
+        Need::Any | Need::Own | Need::Kept | Need::Cursor(_) => None,
+    }
 }
 
 impl Sharing {
     /// Begins without connections. At most `most` of those to the server are shared.
     pub fn new(alloc: Global, connector: Connector, most: usize, watching: Watching) -> Sharing {
         Sharing {
+            core: Core::new(alloc),
             clients: Clients::new(alloc, watching),
             servers: Servers::new(alloc, most),
-            routes: Routes::new(alloc),
             due: Due::new(alloc),
             delays: Delays::new(alloc),
             connector,
         }
     }
 
+    /// Accepts a client, if one waits. Returns false if none does.
+    ///
+    /// # Errors
+    ///
+    /// Returns an error if memory runs out or writing fails.
+    pub fn accept<W: Write>(&mut self, out: &mut W) -> io::Result<bool> {
+        let next = self.core.next_client();
+        match self.connector.accept(next, self.clients.has_room())? {
+            Some(line) => {
+                let number = self.core.accept()?;
+                self.clients.open(number, line, out)?;
+                Ok(true)
+            }
+            None => Ok(false),
+        }
+    }
+
     /// Closes a connection to the server, with which its cursors and transactions are lost. Returns
     /// it.
     pub fn drop_server(&mut self, upstream: u64) -> Option<Server> {
-        self.routes.lose(upstream);
+        self.core.lose(upstream);
         self.servers.close(upstream)
     }
 
-    /// Closes the connection to the server that a client alone used, behind what waits to be sent.
-    fn leave_server(&mut self, upstream: u64) -> Result<(), AllocError> {
-        let Some(server) = self.servers.get_mut(upstream) else {
-            return Ok(());
-        };
-        if server.waiting() == 0 {
-            let _ = self.drop_server(upstream);
-            return Ok(());
-        }
-        server.finish();
-        self.due.push(Side::Server(upstream))
-    }
-
-    /// Closes a connection to the server that was for a transaction, behind the calls over it. The
+    /// Closes a connection to the server behind the calls over it, since what used it is over. The
     /// requests that wait for it go over others.
-    fn end_transaction(&mut self, upstream: u64) -> Result<(), AllocError> {
+    fn finish(&mut self, upstream: u64) -> Result<(), AllocError> {
+        self.core.finish(upstream);
         let Some(server) = self.servers.get_mut(upstream) else {
             return Ok(());
         };
-        server.finish();
         for number in server.blocked.iter() {
             self.due.push(Side::Client(*number))?;
         }
@@ -78,23 +107,31 @@ impl Sharing {
         self.due.push(Side::Server(upstream))
     }
 
-    /// Closes the connection of the session's earlier transaction, if it has one, since the next one
-    /// begins.
-    fn end_earlier(&mut self, session: SessionId) -> Result<(), AllocError> {
-        match self.routes.find(Need::Transaction(session)) {
-            Some(upstream) if self.servers.has_transaction(upstream) => {
-                self.end_transaction(upstream)
-            }
-            _ => Ok(()),
+    /// Closes a connection to the server that a client used which is gone: its own at once, if nothing
+    /// waits to be sent over it, and else behind what does.
+    fn leave_server(&mut self, upstream: u64) -> Result<(), AllocError> {
+        if !self.core.has_transaction(upstream) && self.core.server_output(upstream).is_empty() {
+            let _ = self.drop_server(upstream);
+            return Ok(());
+        }
+        self.finish(upstream)
+    }
+
+    /// Closes the connection of the session's earlier transaction, if it has one, where the request of
+    /// a client begins the next one.
+    fn end_earlier(&mut self, number: u64) -> Result<(), AllocError> {
+        match self.core.earlier(number) {
+            Some(upstream) => self.finish(upstream),
+            None => Ok(()),
         }
     }
 
-    /// Closes the connections for the transactions that a client began which is gone. What still
-    /// comes of them goes over others.
-    fn leave_transactions(&mut self, number: u64) -> Result<(), AllocError> {
+    /// Closes the connections to the server that only a client used which is gone, and those for the
+    /// transactions that it began. What still comes of these goes over others.
+    fn leave_servers(&mut self, number: u64) -> Result<(), AllocError> {
         for _ in 0..u64::MAX {
-            match self.servers.transaction_of(number) {
-                Some(upstream) => self.end_transaction(upstream)?,
+            match self.core.used_by(number) {
+                Some(upstream) => self.leave_server(upstream)?,
                 None => break,
             }
         }
@@ -118,52 +155,38 @@ impl Sharing {
     pub fn close<W: Write>(&mut self, number: u64, leave: Leave, out: &mut W) -> io::Result<()> {
         self.connector.resume();
         self.delays.forget(number as usize);
+        self.core.close(number);
         let Some(client) = self.clients.close(number, leave, out)? else {
             return Ok(());
         };
         if let Some(upstream) = client.waits_at {
             self.leave_queue(number, upstream)?;
         }
-        if let Some(kept) = client.kept {
-            self.leave_server(kept)?;
-        }
-        Ok(self.leave_transactions(number)?)
-    }
-
-    /// Closes the client of this number, if it awaits a reply of a connection that was lost, or uses
-    /// that alone: with its request, if it has one, and else behind what waits to be sent to it.
-    fn lose_call<W: Write>(&mut self, number: u64, upstream: u64, out: &mut W) -> io::Result<()> {
-        match self.clients.get_mut(number) {
-            Some(client)
-                if client.awaits(upstream) || client.kept == Some(upstream) && client.asks() => {
-                self.close(number, Leave::Lost(upstream), out)
-            }
-            Some(client) if client.kept == Some(upstream) => {
-                client.finish();
-                Ok(self.due.push(Side::Client(number))?)
-            }
-            _ => Ok(()),
-        }
+        Ok(self.leave_servers(number)?)
     }
 
     /// Closes a connection to the server, for this reason, and all clients that await a reply of it.
-    /// Why is written, too, but that the server ended it only where connections are told of.
+    /// Why is written, too, but that the server ended it only where connections are told of. The client
+    /// that alone uses it takes a turn, to leave.
     ///
     /// # Errors
     ///
     /// Returns an error if writing fails.
     pub fn lose<W: Write>(&mut self, upstream: u64, leave: Leave, out: &mut W) -> io::Result<()> {
+        let owner = self.core.owner(upstream);
         let Some(server) = self.drop_server(upstream) else {
             return Ok(());
         };
-        if leave != Leave::Ended || self.clients.are_told() {
+        if self.clients.are_told() || !matches!(leave, Leave::Ended) {
             writeln!(out, "upstream {upstream} {leave}")?;
         }
-        if let Use::Kept(number) = server.used() {
-            self.lose_call(number, upstream, out)?;
-        }
         for number in server.callers.values() {
-            self.lose_call(*number, upstream, out)?;
+            if self.core.client(*number).is_none() {
+                self.close(*number, Leave::Lost(upstream), out)?;
+            }
+        }
+        if let Some(number) = owner {
+            self.due.push(Side::Client(number))?;
         }
         for number in server.blocked.iter() {
             self.due.push(Side::Client(*number))?;
@@ -181,9 +204,26 @@ impl Sharing {
         let Some(server) = self.servers.get_mut(upstream) else {
             return Ok(());
         };
-        match server.first_blocked() {
-            Some(number) => self.due.push(Side::Client(number)),
-            None => Ok(()),
+        match server.blocked.front() {
+            Some(number) if !is_full(&self.core, upstream) => self.due.push(Side::Client(*number)),
+            _ => Ok(()),
+        }
+    }
+
+    /// Opens a connection to the server that is used so, and returns its number. If that fails, a
+    /// request that needs none of its own, and one that begins a transaction, goes over a shared one,
+    /// if there is one.
+    fn open(&mut self, net: &impl Net, used: Use) -> Result<Result<u64, Leave>, AllocError> {
+        match self.connector.connect(net, self.core.next_server())? {
+            Ok(line) => {
+                let number = self.core.open(used)?;
+                self.servers.open(number, line, used == Use::Shared)?;
+                Ok(Ok(number))
+            }
+            Err(failure) => match self.servers.least_busy(&self.core) {
+                Some(other) if matches!(used, Use::Shared | Use::Transaction(_)) => Ok(Ok(other)),
+                _ => Ok(Err(Leave::Unconnected(failure))),
+            },
         }
     }
 
@@ -193,58 +233,99 @@ impl Sharing {
         let Some(client) = self.clients.get_mut(number) else {
             return Ok(Err(Leave::Ended));
         };
-        let need = need(&client.downstream);
-        let begun = begun(&client.downstream);
-        let (kept, waits_at) = (client.kept, client.waits_at);
-        if let Some(upstream) = waits_at
-            && self.servers.serves(upstream, number)
+        if let Some(upstream) = client.waits_at
+            && self.core.may_go(number, upstream)
         {
             return Ok(Ok(upstream));
         }
-        if let Some(session) = begun {
-            self.end_earlier(session)?;
-        }
-        if let Some(kept) = kept {
-            return Ok(Ok(kept));
-        }
+        self.end_earlier(number)?;
         match self
-            .servers
-            .place(&self.routes, number, need, begun.is_some())
+            .core
+            .place(number, self.servers.place_shared(&self.core))
         {
-            Place::At(upstream) => Ok(Ok(upstream)),
-            Place::New(used) => self.connector.open(net, &mut self.servers, used),
+            Some(Place::At(upstream)) => Ok(Ok(upstream)),
+            Some(Place::New(used)) => self.open(net, used),
+            Some(Place::Gone(upstream)) => Ok(Err(Leave::Lost(upstream))),
+            None => Ok(Err(Leave::Ended)),
         }
     }
 
-    /// Passes the request of a client on over this connection, which may be lost or another one's by
-    /// now, and has the next one that waits for it follow. Returns false if it waits, or its client
-    /// was closed.
-    fn pass_over<W: Write>(&mut self, number: u64, upstream: u64, out: &mut W) -> io::Result<bool> {
+    /// Notes who awaits the reply to a request that was passed on, and where the connection is cut,
+    /// if the script says so: behind the `before` bytes that waited before it.
+    fn note(&mut self, number: u64, upstream: u64, before: usize) -> Result<(), AllocError> {
+        if wants_memory(&self.core, number) {
+            return Err(AllocError);
+        }
+        let Some(client) = self.clients.get_mut(number) else {
+            return Ok(());
+        };
+        let Some(server) = self.servers.get_mut(upstream) else {
+            return Ok(());
+        };
+        if let Some(count) = client.steering.cut_up {
+            client.steering.cut_up = None;
+            server.cut_behind(before, self.core.server_output(upstream).len(), count);
+        }
+        match self.core.client(number) {
+            Some(client) => match client.awaited() {
+                Some(awaited) => server.note(awaited.call, number),
+                None => Ok(()),
+            },
+            None => Ok(()),
+        }
+    }
+
+    /// Passes the request of a client on over this connection. Returns why the client is to be closed,
+    /// if it is.
+    fn pass_on(&mut self, number: u64, upstream: u64) -> Result<Option<Leave>, AllocError> {
+        let before = self.core.server_output(upstream).len();
+        match self.core.pass(number, upstream) {
+            Ok(()) => {
+                self.note(number, upstream, before)?;
+                self.due.push(Side::Server(upstream))?;
+                Ok(None)
+            }
+            Err(PassFault::Elsewhere) => Ok(Some(Leave::Lost(upstream))),
+            Err(PassFault::Refused(PassRefusal::NothingWaits)) => Ok(None),
+            Err(PassFault::OutOfMemory)
+            | Err(PassFault::Refused(PassRefusal::OutOfMemory))
+            | Err(PassFault::Refused(PassRefusal::Call(CallRefusal::OutOfMemory))) => {
+                Err(AllocError)
+            }
+            Err(PassFault::Refused(PassRefusal::Call(refusal))) => {
+                Ok(Some(Leave::Refused(refusal)))
+            }
+        }
+    }
+
+    /// Returns true if the request of a client has to wait for this connection, and notes that it
+    /// does, or that it doesn't any more.
+    fn waits(&mut self, number: u64, upstream: u64) -> Result<bool, AllocError> {
+        let full = is_full(&self.core, upstream);
         let Some(client) = self.clients.get_mut(number) else {
             return Ok(false);
         };
         let Some(server) = self.servers.get_mut(upstream) else {
-            self.close(number, Leave::Lost(upstream), out)?;
             return Ok(false);
         };
-        if server.has_to_wait(number) {
+        if server.has_to_wait(number, full) {
             server.block(number)?;
             client.waits_at = Some(upstream);
-            return Ok(false);
-        }
-        let connection = client.downstream.connection();
-        if !server.used().may_serve(connection) {
-            self.close(number, Leave::Lost(upstream), out)?;
-            return Ok(false);
+            return Ok(true);
         }
         server.unblock(number);
         client.waits_at = None;
-        if server.used() == Use::Kept(number) {
-            client.kept = Some(upstream);
+        Ok(false)
+    }
+
+    /// Passes the request of a client on over this connection, and has the next one that waits for it
+    /// follow. Returns false if it waits.
+    fn pass_over<W: Write>(&mut self, number: u64, upstream: u64, out: &mut W) -> io::Result<bool> {
+        if self.waits(number, upstream)? {
+            return Ok(false);
         }
-        match pass_on(client, server, &mut self.routes)? {
-            Some(leave) => self.close(number, leave, out)?,
-            None => self.due.push(Side::Server(upstream))?,
+        if let Some(leave) = self.pass_on(number, upstream)? {
+            self.close(number, leave, out)?;
         }
         self.unblock(upstream)?;
         Ok(true)
@@ -265,6 +346,26 @@ impl Sharing {
         }
     }
 
+    /// Returns the client that awaits the reply that is ready, and forgets that it does.
+    fn take_caller(&mut self, upstream: u64) -> Option<u64> {
+        let call = self.core.server(upstream)?.reply()?.call;
+        self.servers.get_mut(upstream)?.callers.swap_remove(&call)
+    }
+
+    /// Answers a client with the reply that is ready, if it is the one that the client awaits, and lets
+    /// go of that. Returns true if the client is to get it.
+    fn answer(&mut self, upstream: u64, number: u64) -> Result<bool, AllocError> {
+        match self.core.give(upstream, number) {
+            Ok(()) if wants_memory(&self.core, number) => Err(AllocError),
+            Ok(()) => Ok(is_open(&self.core, number)),
+            Err(GiveRefusal::NotAwaited | GiveRefusal::Closed) => {
+                self.core.release(upstream);
+                Ok(false)
+            }
+            Err(GiveRefusal::OutOfMemory) => Err(AllocError),
+        }
+    }
+
     /// Gives the reply that is ready to the client that awaits it, or to none.
     ///
     /// # Errors
@@ -276,31 +377,22 @@ impl Sharing {
         sink: &mut Sink<'_, R>,
         out: &mut W,
     ) -> io::Result<()> {
-        let Some(server) = self.servers.get_mut(upstream) else {
+        let Some(number) = self.take_caller(upstream) else {
+            self.core.release(upstream);
             return Ok(());
         };
-        let Some(number) = server.take_caller() else {
-            server.release();
-            return Ok(());
-        };
-        let Some(client) = self.clients.get_mut(number) else {
-            server.release();
-            return Ok(());
-        };
-        let need = need(&client.downstream);
-        let lives_at = match need {
-            Need::Transaction(_) => self.routes.find(need),
-            Need::Any | Need::Own | Need::Kept | Need::Cursor(_) => None,
-        };
-        if answer(client, server, &mut self.routes)? {
-            steer_reply(client, sink, out)?;
+        let transaction = transaction_of(&self.core, number);
+        if self.answer(upstream, number)?
+            && let Some(client) = self.clients.get_mut(number)
+        {
+            steer_reply(&mut self.core, number, client, sink, out)?;
         }
         // The answer ended the transaction if no route of it is left.
-        if let Some(at) = lives_at
-            && self.routes.find(need).is_none()
-            && self.servers.has_transaction(at)
+        if let Some((need, at)) = transaction
+            && self.core.find(need).is_none()
+            && self.core.has_transaction(at)
         {
-            self.end_transaction(at)?;
+            self.finish(at)?;
         }
         Ok(self.due.push(Side::Client(number))?)
     }

@@ -11,9 +11,10 @@ use std::rt::Files;
 use std::time::Clock;
 use wire_frames::{FrameFront, RawFrame};
 use wire_msg::MAX_MESSAGE_LEN;
+use wire_share::Core;
 
 /// What becomes of a client whose request was steered.
-#[derive(Clone, Copy, Debug, PartialEq, Eq)]
+#[derive(Clone, Copy)]
 pub enum Steered {
     /// It goes on.
     Again,
@@ -25,12 +26,13 @@ pub enum Steered {
 
 /// Gives the message that a client's line holds to the sink: one that isn't passed on.
 fn show<R: Files + Clock, W: Write>(
+    number: u64,
     client: &Client,
     sink: &mut Sink<'_, R>,
     out: &mut W,
 ) -> io::Result<()> {
     match client.line.message() {
-        Some(frame) => sink.put(client.downstream.connection(), Direction::There, frame, out),
+        Some(frame) => sink.put(number, Direction::There, frame, out),
         None => Ok(()),
     }
 }
@@ -49,6 +51,7 @@ fn pass(client: &mut Client, flow: Flow, cut_up: Option<u64>) {
 /// Returns an error if memory runs out, or the sink or writing fails.
 pub fn steer<R: Files + Clock, W: Write>(
     alloc: Global,
+    number: u64,
     client: &mut Client,
     script: &mut Script,
     sink: &mut Sink<'_, R>,
@@ -58,7 +61,6 @@ pub fn steer<R: Files + Clock, W: Write>(
         Some(frame) => (frame.header().id, fate_of(alloc, script, frame)?),
         None => return Ok(Steered::Again),
     };
-    let number = client.downstream.connection();
     match fate {
         Fate::Pass(flow) => pass(client, flow, None),
         Fate::CutUp(count) => pass(client, Flow::Whole, Some(count)),
@@ -68,11 +70,11 @@ pub fn steer<R: Files + Clock, W: Write>(
             return Ok(Steered::Held(millis));
         }
         Fate::HangUp => {
-            show(client, sink, out)?;
+            show(number, client, sink, out)?;
             return Ok(Steered::Over(Leave::HungUp(id)));
         }
         Fate::Reply(bytes) => {
-            show(client, sink, out)?;
+            show(number, client, sink, out)?;
             writeln!(out, "{number} reply to {id}")?;
             client.line.skip();
             client.steering.reply = bytes;
@@ -89,53 +91,49 @@ pub fn release(client: &mut Client) {
     }
 }
 
-/// Returns the reply that a client is to get, if it is whole.
-fn reply(client: &Client) -> Option<RawFrame<'_>> {
-    match RawFrame::front(client.downstream.output(), MAX_MESSAGE_LEN) {
-        FrameFront::Whole { frame, .. } => Some(frame),
-        FrameFront::Open { .. } | FrameFront::Bad(_) => None,
-    }
-}
-
 /// Gives the reply that a client doesn't get whole to the sink. Returns its size, and the id that it
 /// answers.
 fn show_reply<R: Files + Clock, W: Write>(
-    client: &Client,
+    core: &Core,
+    number: u64,
     sink: &mut Sink<'_, R>,
     out: &mut W,
 ) -> io::Result<(usize, i32)> {
-    match reply(client) {
-        Some(frame) => {
-            sink.put(client.downstream.connection(), Direction::Back, frame, out)?;
+    match RawFrame::front(core.output(number), MAX_MESSAGE_LEN) {
+        FrameFront::Whole { frame, .. } => {
+            sink.put(number, Direction::Back, frame, out)?;
             Ok((frame.as_bytes().len(), frame.header().response_to))
         }
-        None => Ok((0, 0)),
+        FrameFront::Open { .. } | FrameFront::Bad(_) => Ok((0, 0)),
     }
 }
 
 /// Lets go of the reply that a client was to get.
 fn drop_reply<R: Files + Clock, W: Write>(
-    client: &mut Client,
+    core: &mut Core,
+    number: u64,
     sink: &mut Sink<'_, R>,
     out: &mut W,
 ) -> io::Result<()> {
-    let number = client.downstream.connection();
-    let (size, to) = show_reply(client, sink, out)?;
+    let (size, to) = show_reply(core, number, sink, out)?;
     writeln!(out, "{number} drop {size} to {to}")?;
-    client.downstream.sent(client.downstream.output().len());
+    let all = core.output(number).len();
+    core.sent(number, all);
     Ok(())
 }
 
 /// Has only so many bytes of the reply sent that a client is to get.
 fn cut_reply<R: Files + Clock, W: Write>(
+    core: &Core,
+    number: u64,
     client: &mut Client,
     count: u64,
     sink: &mut Sink<'_, R>,
     out: &mut W,
 ) -> io::Result<()> {
-    let size = client.downstream.output().len() as u64;
+    let size = core.output(number).len() as u64;
     if count < size {
-        let _ = show_reply(client, sink, out)?;
+        let _ = show_reply(core, number, sink, out)?;
     }
     client.line.limit_sending(count.min(size));
     Ok(())
@@ -147,6 +145,8 @@ fn cut_reply<R: Files + Clock, W: Write>(
 ///
 /// Returns an error if memory runs out, or the sink or writing fails.
 pub fn steer_reply<R: Files + Clock, W: Write>(
+    core: &mut Core,
+    number: u64,
     client: &mut Client,
     sink: &mut Sink<'_, R>,
     out: &mut W,
@@ -155,7 +155,7 @@ pub fn steer_reply<R: Files + Clock, W: Write>(
     client.steering.flow = Flow::Whole;
     match flow {
         Flow::Whole | Flow::Held(_) => Ok(()),
-        Flow::Cut(count) => cut_reply(client, count, sink, out),
-        Flow::Dropped => drop_reply(client, sink, out),
+        Flow::Cut(count) => cut_reply(core, number, client, count, sink, out),
+        Flow::Dropped => drop_reply(core, number, sink, out),
     }
 }

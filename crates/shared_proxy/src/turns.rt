@@ -58,7 +58,7 @@ impl Turns {
         let Some(script) = &mut self.script else {
             return Ok(());
         };
-        match steer(self.alloc, client, script, sink, out)? {
+        match steer(self.alloc, number, client, script, sink, out)? {
             Steered::Again => Ok(()),
             Steered::Held(millis) => self.sharing.delays.hold(clock, number as usize, millis),
             Steered::Over(leave) => self.sharing.close(number, leave, out),
@@ -77,7 +77,7 @@ impl Turns {
         let Some(client) = self.sharing.clients.get_mut(number) else {
             return Ok(false);
         };
-        let step = client.step()?;
+        let step = client.step(&mut self.sharing.core, number)?;
         client.show(sink, out)?;
         match step {
             Step::Again => {}
@@ -101,11 +101,11 @@ impl Turns {
         let Some(server) = self.sharing.servers.get_mut(upstream) else {
             return Ok(false);
         };
-        if server.is_done() {
+        if self.sharing.core.is_done(upstream) {
             let _ = self.sharing.drop_server(upstream);
             return Ok(false);
         }
-        match server.step()? {
+        match server.step(&mut self.sharing.core, upstream)? {
             Step::Again => self.sharing.unblock(upstream)?,
             Step::Waits | Step::Held => return Ok(false),
             Step::Ready => self.sharing.give(upstream, sink, out)?,
@@ -187,9 +187,8 @@ impl Turns {
     /// Accepts clients, until none waits, and no more than `ACCEPTS`.
     fn accept_some<W: Write>(&mut self, out: &mut W) -> io::Result<()> {
         for _ in 0..ACCEPTS {
-            match self.sharing.connector.accept(&self.sharing.clients)? {
-                Some(line) => self.sharing.clients.open(line, out)?,
-                None => break,
+            if !self.sharing.accept(out)? {
+                break;
             }
         }
         self.sharing.connector.tell_backlog(out)
@@ -198,7 +197,7 @@ impl Turns {
 
 impl EventLoop for Turns {
     fn is_over(&self, wanted: u64) -> bool {
-        self.sharing.clients.ended() >= wanted && !self.sharing.servers.has_output()
+        self.sharing.clients.ended() >= wanted && !self.sharing.core.has_output()
     }
 
     fn registry(&self) -> &Registry {

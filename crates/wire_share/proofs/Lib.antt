@@ -8,3 +8,16 @@ pub mod Mixing
 pub mod Servers
 pub mod Answering
 pub mod Killing
+pub mod Standing
+pub mod Alone
+pub mod Losing
+pub mod Wishing
+pub mod Keeping
+pub mod Runs
+pub mod Passing_on
+pub mod Ends
+pub mod Routing
+pub mod Numbering
+pub mod Giving_back
+pub mod Moves
+pub mod Up_moves

@@ -1,7 +1,7 @@
 -- What a request needs of the connection that it goes over, and what it and its reply tell of
 -- cursors and transactions.
-use Rattle.std.specs.Prelude.{ℕ, ℤ, List, [], Bool, false, ◌==◌, Option, Some, None, codes}
-use Rattle.std.specs.Prelude.{if◌then◌else◌, is_some, length, not}
+use Rattle.std.specs.Prelude.{ℕ, ℤ, List, [], ◌∷◌, Bool, false, ◌||◌, ◌==◌, Option, Some, None}
+use Rattle.std.specs.Prelude.{codes, if◌then◌else◌, is_some, length, not}
 use Rattle.std.specs.Str.{bytes_eq}
 use Rattle.bson_elem.specs.declared.kinds.Kind.TheVariants as kinds
 use Rattle.bson_elem.specs.{Tree, binary_value, boolean_value, inner_pair, leaf_pair}
@@ -21,6 +21,21 @@ command_name no_pairs = []
 command_name (leaf_pair n k v ps) = n
 command_name (inner_pair n k b inner ps) = n
 
+-- the first field with this name has the command inside
+abbrev pub is_wrapper : List ℕ → Bool
+is_wrapper name = bytes_eq name (codes "$query") || bytes_eq name (codes "query")
+
+-- the command of a request with this body: the document in such a field, or the body itself
+abbrev pub command_in : Tree → Tree
+command_in (inner_pair n kinds.Document b inner ps) =
+    if is_wrapper n then inner else inner_pair n kinds.Document b inner ps
+command_in t = t
+
+-- what begins with `$` is an operator, and what stands behind it may be any command
+abbrev pub other_topic : List ℕ → Topic
+other_topic [] = topics.Other
+other_topic (first ∷ rest) = if first == 36 then topics.Operator else topics.Other
+
 -- what the command with this name is about
 abbrev pub topic_of : List ℕ → Topic
 topic_of name =
@@ -35,7 +50,7 @@ topic_of name =
     if bytes_eq name (codes "getMore") then topics.GetMore else
     if bytes_eq name (codes "killCursors") then topics.KillCursors else
     if bytes_eq name (codes "commitTransaction") then topics.TransactionEnd else
-    if bytes_eq name (codes "abortTransaction") then topics.TransactionEnd else topics.Other
+    if bytes_eq name (codes "abortTransaction") then topics.TransactionEnd else other_topic name
 
 -- ---- fields
 
@@ -133,11 +148,12 @@ need_for None (Some cursor) = needs.Cursor cursor
 need_for None None = needs.Any
 
 -- That of a handshake is a connection of its own, and one that the client keeps if it begins to
--- authenticate, as that of all that authenticates.
+-- authenticate, as that of all that authenticates, or may.
 abbrev pub need_by : Topic → Tree → Need
 need_by topics.Handshake t =
     if is_some (first_named (codes "speculativeAuthenticate") t) then needs.Kept else needs.Own
 need_by topics.Authentication t = needs.Kept
+need_by topics.Operator t = needs.Kept
 need_by topic t = need_for (transaction_of t) (asked_cursor topic t)
 
 -- the need of a request with this body

@@ -232,7 +232,7 @@ impl Downstream {
 
     /// Returns true if this reply of `upstream` is the one that is awaited, the only one of its
     /// call.
-    fn awaits(&self, upstream: &Upstream, reply: Reply<'_>) -> bool
+    pub(crate) fn awaits(&self, upstream: &Upstream, reply: Reply<'_>) -> bool
         requires { Some (ready_of reply) ≡ upstream.now.client.reply }
         ensures yes { result ≡ true → Awaits self.now upstream.now (ready_of reply.entry) }
         ensures no { result ≡ false → (other : ReadyReply) → Awaits self.now upstream.now other

@@ -4,8 +4,9 @@
 ghost use Rattle.std.specs.Prelude.{◌≡◌, MatchOption, None, Option};
 ghost use Rattle.bson_elem.specs.{Spells, Tree};
 ghost use Rattle.bson_raw.specs.{ShowsFound, TreeValue, array_bytes, document_bytes};
-ghost use Rattle.wire_share.specs.Needs.{asked_cursor, begun_by, command_name, ended_by};
-ghost use Rattle.wire_share.specs.Needs.{first_id, id_of, is_false, is_true, need_by, need_for};
+ghost use Rattle.wire_share.specs.Needs.{asked_cursor, begun_by, command_in, command_name};
+ghost use Rattle.wire_share.specs.Needs.{ended_by, first_id, id_of, is_false, is_true, is_wrapper};
+ghost use Rattle.wire_share.specs.Needs.{need_by, need_for, other_topic};
 ghost use Rattle.wire_share.specs.Needs.{more_of, need_of, opened_by, session_by, session_id};
 ghost use Rattle.wire_share.specs.Needs.{session_of, topic_of, transaction_of};
 
@@ -43,7 +44,38 @@ pub(crate) enum Topic {
     KillCursors,
     /// It commits or aborts a transaction.
     TransactionEnd,
+    /// It is an operator, and what stands behind it may be any command.
+    Operator,
     Other,
+}
+
+/// Returns true if the command stands inside the first field, which has this name.
+fn is_wrapper(name: &str) -> bool
+    ensures { result ≡ is_wrapper name.now }
+{
+    matches!(name, "$query" | "query")
+}
+
+/// Returns the command of a request with this body: that inside the first field, if that is one
+/// that wraps commands, and else the body itself.
+pub fn command_in(body: RawDocument<'_>) -> RawDocument<'_>
+    ensures { (t : Tree) → Spells t (document_bytes body.entry)
+        → Spells (command_in t) (document_bytes result) }
+{
+    match body.iter().next() {
+        Some((name, RawBson::Document(command))) if is_wrapper(name) => command,
+        _ => body,
+    }
+}
+
+/// Returns what the command with this name is about that is none of those that matter.
+fn other_topic(name: &str) -> Topic
+    ensures { result ≡ other_topic name.now }
+{
+    match name.as_bytes().first() {
+        Some(b'$') => Topic::Operator,
+        _ => Topic::Other,
+    }
 }
 
 /// Returns what the command with this name is about.
@@ -58,7 +90,7 @@ fn topic_of(name: &str) -> Topic
         "getMore" => Topic::GetMore,
         "killCursors" => Topic::KillCursors,
         "commitTransaction" | "abortTransaction" => Topic::TransactionEnd,
-        _ => Topic::Other,
+        _ => other_topic(name),
     }
 }
 
@@ -221,7 +253,7 @@ fn need_by(topic: Topic, body: RawDocument<'_>) -> Need
     match topic {
         Topic::Handshake if body.get("speculativeAuthenticate").is_some() => Need::Kept,
         Topic::Handshake => Need::Own,
-        Topic::Authentication => Need::Kept,
+        Topic::Authentication | Topic::Operator => Need::Kept,
         _ => need_for(transaction_of(body), asked_cursor(topic, body)),
     }
 }

@@ -5,6 +5,8 @@
 #![tactic(auto)]
 
 #[cfg(test)]
+mod core_refusals;
+#[cfg(test)]
 mod passing;
 #[cfg(test)]
 mod route_refusals;
