@@ -18,7 +18,7 @@ use Rattle.wire_msg.specs.Sequences.{SequenceStepsTo, SequencesLeft}
 use Rattle.wire_msg.specs.{Message, Sequence}
 use Rattle.replay.specs.Stripped.{AreSame}
 use Rattle.replay.specs.Same.{AreSameDocuments, AreSameMessages, IsSameSequence, OneByOne}
-use Rattle.replay.specs.Held.{IsMessageOf, IsOtherOf}
+use Rattle.replay.specs.Held.{IsMessageOf}
 use Rattle.replay.specs.declared.content.Content.{Content}
 use Rattle.replay.specs.declared.content.Content.TheVariants as contents
 use Rattle.wire_msg.specs.declared.msg.RawMsg.{RawMsg}
@@ -117,12 +117,6 @@ pub read_as_message : (bytes : List ℕ) (k : Content) → IsMessageOf bytes k �
 read_as_message bytes (contents.Message m) is isnt = isnt m refl
 read_as_message bytes (contents.Reply documents) is isnt = is
 read_as_message bytes (contents.Other rest) is isnt = is
-
--- what is read as other bytes isn't something else
-pub read_as_other : (bytes : List ℕ) (k : Content) → IsOtherOf bytes k → ((rest : Bor (List ℕ)) → k ≡ contents.Other rest → ⊥) → ⊥
-read_as_other bytes (contents.Message m) is isnt = is
-read_as_other bytes (contents.Reply documents) is isnt = is
-read_as_other bytes (contents.Other rest) is isnt = isnt rest refl
 
 pub to_end : (n : ℕ) (xs : List ℕ) → n ≤ length xs → slice_range xs n (length xs) ≡ drop n xs
 to_end n xs inside = grind (arith, common_steps)

@@ -13,9 +13,7 @@ use Rattle.bson_raw.proofs.Lemmas.{document_takes}
 use Rattle.wire_msg.specs.{IsMessage, number_at}
 use Rattle.wire_msg.proofs.Lemmas.{msg_read}
 use Rattle.replay.specs.Same.{OneByOne}
-use Rattle.replay.specs.Held.{IsReply, IsReplyOf}
-use Rattle.replay.specs.declared.content.Content.{Content}
-use Rattle.replay.specs.declared.content.Content.TheVariants as contents
+use Rattle.replay.specs.Held.{IsReply}
 use Rattle.replay.proofs.Comparing.{not_true, told_by_bytes}
 
 -- ---- the document at the front
@@ -104,12 +102,6 @@ pub no_message : (limit : ℕ) (bytes : List ℕ) → IsMessage limit bytes → 
 no_message limit bytes (short, (m, s)) is =
     let one : cast_signed w32 (number_at bytes 12) ≡ pos 1 = ap (λ (x : List ℕ). cast_signed w32 (from_le_bytes w32 x)) is.1 in
     let two : pos 1 ≡ pos 2013 = sym one ∙ (msg_read m bytes s).opcode in cc
-
--- what is read as an OP_REPLY isn't something else
-pub read_as_reply : (bytes : List ℕ) (k : Content) → IsReplyOf bytes k → ((documents : Bor (List ℕ)) → k ≡ contents.Reply documents → ⊥) → ⊥
-read_as_reply bytes (contents.Message m) is isnt = is
-read_as_reply bytes (contents.Reply documents) is isnt = isnt documents refl
-read_as_reply bytes (contents.Other rest) is isnt = is
 
 -- what holds anyway holds on Ok
 pub counted : {A E : Type 0} {Holds : Type 0} (result : Result A E) → Holds → OnOk result Holds

@@ -1,5 +1,8 @@
 -- What a replay counts, and what it came to.
-use Rattle.std.specs.Prelude.{◌≡◌, ◌+◌, ℕ, None, Option, is_some, min, true}
+use Rattle.std.specs.Prelude.{◌≡◌, ◌+◌, ◌⊎◌, ℕ, None, Option, is_some, min, true}
+use Rattle.replay.specs.declared.finding.Finding.{Finding}
+use Rattle.replay.specs.declared.finding.Finding.TheVariants.{Compare, Late, Missing, Unexpected}
+use Rattle.replay.specs.declared.finding.Finding.TheVariants.{Unrecorded}
 use Rattle.replay.specs.declared.input_fault.InputFault.{InputFault}
 use Rattle.replay.specs.declared.replaying.Outcome.{Outcome}
 use Rattle.replay.specs.declared.replaying.Outcome.TheVariants.{Different, Fault, Same}
@@ -26,3 +29,15 @@ abbrev pub IsOutcome : Option InputFault → Tally → Outcome → Type 0
 IsOutcome fault t Same = (fault ≡ None) × AreAllSame t
 IsOutcome fault t Different = (fault ≡ None) × ¬ AreAllSame t
 IsOutcome fault t Fault = is_some fault ≡ true
+
+-- An answer was counted by what was found of it. Two that were compared are the same or different.
+abbrev pub IsCounted : Finding → Tally → Tally → Type 0
+IsCounted (Compare a b) before after =
+    (after ≡ record before { same = one_more before.same })
+    ⊎ (after ≡ record before { different = one_more before.different })
+IsCounted (Missing a) before after = after ≡ record before { missing = one_more before.missing }
+IsCounted (Late b) before after = after ≡ record before { late = one_more before.late }
+IsCounted (Unexpected b) before after =
+    after ≡ record before { unexpected = one_more before.unexpected }
+IsCounted (Unrecorded b) before after =
+    after ≡ record before { unrecorded = one_more before.unrecorded }

@@ -1,6 +1,10 @@
 pub mod Stripped
 pub mod Same
 pub mod Held
-pub mod Counts
+pub mod Firsts
+pub mod Follows
 pub mod Paces
+pub mod Matchings
+pub mod MatchingRuns
+pub mod Counts
 pub mod Stalls

@@ -1,6 +1,11 @@
 //! When the requests of a connection were recorded whose answers weren't read yet.
 
+ghost use Rattle.std.specs.Prelude.{◌≡◌, ◌==◌, ◌++◌, ◌∷◌, [], OnOk, find};
+ghost use Rattle.replay.specs.Firsts.{without_first};
+ghost use Rattle.replay.specs.Follows.{with_room};
+
 use std::alloc::{AllocError, Global};
+use std::collections::VecDeque;
 
 /// The most requests that are noted. Older ones are forgotten, since their answers may be in no
 /// record.
@@ -8,22 +13,25 @@ const MOST: usize = 1024;
 
 /// A request, and when it was recorded.
 #[derive(Clone, Copy)]
-struct Request {
-    id: i32,
-    micros: i64,
+pub struct Request {
+    id: u32,
+    /// When it was recorded.
+    pub micros: u64,
 }
 
 /// The requests of a connection whose answers weren't read yet, in order.
 #[derive(Drop)]
 pub struct Asked {
-    requests: Vec<Request>,
+    requests: VecDeque<Request>,
 }
 
 impl Asked {
     /// Begins without requests. It takes no memory.
-    pub fn new(alloc: Global) -> Asked {
+    pub fn new(alloc: Global) -> Asked
+        ensures { result.requests.items ≡ [] }
+    {
         Asked {
-            requests: Vec::new(alloc),
+            requests: VecDeque::new(alloc),
         }
     }
 
@@ -33,23 +41,26 @@ impl Asked {
     /// # Errors
     ///
     /// Returns `AllocError` if memory runs out.
-    pub fn note(&mut self, id: i32, micros: i64) -> Result<(), AllocError> {
+    pub fn note(&mut self, id: u32, micros: u64) -> Result<(), AllocError>
+        ensures { OnOk result (self.new.requests.items
+            ≡ with_room self.old.requests.items ++ record { id = id; micros = micros } ∷ []) }
+    {
         if self.requests.len() >= MOST {
-            let _ = self.requests.remove(0);
+            let _ = self.requests.pop_front();
         }
-        self.requests.push(Request { id, micros })?;
+        self.requests.push_back(Request { id, micros })?;
         Ok(())
     }
 
-    /// Returns when the first request with this id was recorded, if one is noted, and forgets it.
-    pub fn take(&mut self, id: i32) -> Option<i64> {
-        for i in 0..self.requests.len() {
-            let request = self.requests[i];
-            if request.id == id {
-                let _ = self.requests.remove(i);
-                return Some(request.micros);
-            }
+    /// Returns the first request with this id, if one is noted, and forgets it.
+    pub fn take(&mut self, id: u32) -> Option<Request>
+        ensures found { result ≡ find (λ request. request.id == id) self.old.requests.items }
+        ensures rest { self.new.requests.items
+            ≡ without_first (λ request. request.id == id) self.old.requests.items }
+    {
+        match self.requests.iter().position(|request| request.id == id) {
+            Some(i) => self.requests.remove(i),
+            None => None,
         }
-        None
     }
 }

@@ -1,20 +1,16 @@
 //! A connection of the record, and the one to the server over which its requests go.
 
 ghost use Rattle.std.specs.Prelude.{◌≡◌, is_none};
-ghost use Rattle.replay.specs.Stalls.{IsStalled};
+ghost use Rattle.replay.specs.Stalls.{stalled};
 
-use crate::answers::{Answer, Answers};
-use crate::asked::Asked;
 use crate::channel::{Broken, Channel, Coming, Sent};
-use crate::content::plain_bytes;
-use crate::flags::{MORE_TO_COME, has_flag, wants_answer};
-use crate::pace::{Taken, earlier, is_past};
-use crate::requests::Requests;
+use crate::dialog::Dialog;
+use crate::finding::Finding;
+use crate::pace::{Taken, earlier};
 use crate::teller::Teller;
 use std::alloc::{AllocError, Global};
 use std::io;
 use std::io::{ErrorKind, Write};
-use std::time::{Duration, Instant};
 use wire_frames::RawFrame;
 use wire_stream::LinkFault;
 
@@ -27,57 +23,41 @@ const HELD: u32 = 1 << 20;
 /// A connection of the record, and the one to the server.
 #[derive(Drop)]
 pub struct Conn {
-    alloc: Global,
     /// The number of the recorded connection.
     number: u64,
     /// The connection to the server, as long as something may go over it.
     channel: Option<Channel>,
     /// Why nothing goes over it, if it is so and wasn't told yet.
     untold: Option<Broken>,
-    /// The answers of both sides that have no counterpart yet.
-    sides: Sides,
-    /// When the requests were recorded whose answers weren't read yet.
-    asked: Asked,
+    dialog: Dialog,
+    /// What was found and not told yet.
+    findings: Vec<Finding>,
     /// Up to when the server has to take more of what is to be sent, if that wasn't sent.
     stall: Option<Stall>,
     /// More may be there than the last turn took.
     has_more: bool,
 }
 
-/// The answers that have no counterpart yet, and the requests of which there are none. To requests
-/// with one id, the answers of the server are the counterparts of the recorded ones in order.
-#[derive(Drop)]
-struct Sides {
-    /// The answers of the record that are awaited.
-    recorded: Answers,
-    /// Those of the server.
-    received: Answers,
-    /// The requests that were sent and whose last answer wasn't recorded yet.
-    open: Requests,
-    /// Those of the recorded answers that were given up, and whose counterparts didn't come since.
-    given_up: Requests,
-}
-
 /// What is to be sent and wasn't.
 #[derive(Clone, Copy)]
 struct Stall {
-    /// How long the server may take nothing of it.
-    patience: Duration,
-    /// Up to when it has to take some, if there is such a moment.
-    due: Option<Instant>,
+    /// For how many microseconds the server may take nothing of it.
+    patience: u64,
+    /// Up to when it has to take some.
+    due: u64,
 }
 
 /// Returns what is left to be sent after a call that sent `sent`, before which this was. The server
 /// has to take more of it within `patience` from now on, or from when it took some last.
-fn stall_after(sent: Sent, before: Option<Stall>, now: Instant, patience: Duration) -> Option<Stall>
-    ensures { IsStalled sent before patience result }
+fn stall_after(sent: Sent, before: Option<Stall>, now: u64, patience: u64) -> Option<Stall>
+    ensures { result ≡ stalled sent before now patience }
 {
     match sent {
         Sent::All => None,
         Sent::Nothing if before.is_some() => before,
         Sent::Nothing | Sent::Part => Some(Stall {
             patience,
-            due: now.checked_add(patience),
+            due: now.saturating_add(patience),
         }),
     }
 }
@@ -85,32 +65,32 @@ fn stall_after(sent: Sent, before: Option<Stall>, now: Instant, patience: Durati
 impl Conn {
     /// Begins a connection of this number, over one to the server, unless there is none, for a
     /// reason that is told later. It takes no memory.
-    fn new(alloc: Global, number: u64, channel: Option<Channel>, untold: Option<Broken>) -> Conn {
+    fn new(alloc: Global, number: u64, channel: Option<Channel>, untold: Option<Broken>) -> Conn
+        ensures { result.number ≡ number }
+    {
         Conn {
-            alloc,
             number,
             channel,
             untold,
-            sides: Sides {
-                recorded: Answers::new(alloc),
-                received: Answers::new(alloc),
-                open: Requests::new(alloc),
-                given_up: Requests::new(alloc),
-            },
-            asked: Asked::new(alloc),
+            dialog: Dialog::new(alloc),
+            findings: Vec::new(alloc),
             stall: None,
             has_more: false,
         }
     }
 
     /// Begins a connection of this number over one to the server. It takes no memory.
-    pub fn over(alloc: Global, number: u64, channel: Channel) -> Conn {
+    pub fn over(alloc: Global, number: u64, channel: Channel) -> Conn
+        ensures { result.number ≡ number }
+    {
         Conn::new(alloc, number, Some(channel), None)
     }
 
     /// Begins a connection of this number to which there is none to the server, for this reason,
     /// which is told with the first record of it. It takes no memory.
-    pub fn lost(alloc: Global, number: u64, broken: Broken) -> Conn {
+    pub fn lost(alloc: Global, number: u64, broken: Broken) -> Conn
+        ensures { result.number ≡ number }
+    {
         Conn::new(alloc, number, None, Some(broken))
     }
 
@@ -123,7 +103,7 @@ impl Conn {
 
     /// Returns true if recorded answers are awaited.
     pub fn awaits(&self) -> bool {
-        !self.sides.recorded.is_empty()
+        self.dialog.awaits()
     }
 
     /// Returns true if it is to take another turn at once.
@@ -140,17 +120,23 @@ impl Conn {
         self.stall.is_none()
     }
 
+    /// Tells what was found.
+    fn tell<W: Write + Drop>(&mut self, teller: &mut Teller<'_, W>) -> io::Result<()> {
+        for finding in &self.findings {
+            teller.tell(self.number, finding)?;
+        }
+        self.findings.clear();
+        Ok(())
+    }
+
     /// Tells that nothing more goes over the connection, if it is so and wasn't told, and that the
     /// awaited answers are missing.
     fn tell_lost<W: Write + Drop>(&mut self, teller: &mut Teller<'_, W>) -> io::Result<()> {
         if let Some(broken) = self.untold.take() {
             teller.tell_failed(self.number, broken)?;
         }
-        for answer in self.sides.recorded.as_slice() {
-            teller.tell_missing(self.number, answer.request, &answer.bytes)?;
-        }
-        self.sides.recorded.clear();
-        Ok(())
+        self.dialog.give_up(u64::MAX, &mut self.findings)?;
+        self.tell(teller)
     }
 
     /// Closes the connection, over which nothing more goes. It is told if answers are awaited or a
@@ -189,8 +175,8 @@ impl Conn {
     /// begins anew whenever it took some.
     fn flush<W: Write + Drop>(
         &mut self,
-        now: Instant,
-        patience: Duration,
+        now: u64,
+        patience: u64,
         teller: &mut Teller<'_, W>,
     ) -> io::Result<()> {
         let Some(channel) = &mut self.channel else {
@@ -203,28 +189,6 @@ impl Conn {
             }
             Err(fault) => self.fail(fault, teller),
         }
-    }
-
-    /// Notes a request that is sent now and wants an answer. Answers to its id that came before are
-    /// none to it: those that no earlier request wanted are told.
-    fn ask<W: Write + Drop>(
-        &mut self,
-        id: i32,
-        micros: i64,
-        teller: &mut Teller<'_, W>,
-    ) -> io::Result<()> {
-        let open = self.sides.open.count(id);
-        for _ in 0..u64::MAX {
-            let Some(answer) = self.sides.received.take_beyond(id, open) else {
-                break;
-            };
-            let told = teller.tell_unexpected(self.number, id, &answer.bytes);
-            drop(answer);
-            told?;
-        }
-        self.sides.open.add(id)?;
-        self.asked.note(id, micros)?;
-        Ok(())
     }
 
     /// Sends a request. Of what can't be sent at once, the server has to take some within some time.
@@ -242,47 +206,13 @@ impl Conn {
             Some(channel) => channel.push(frame.as_bytes())?,
             None => return self.tell_lost(teller),
         }
-        if wants_answer(frame) {
-            self.ask(frame.header().id, taken.micros, teller)?;
-        }
+        self.dialog.ask(frame, taken, &mut self.findings)?;
+        self.tell(teller)?;
         self.flush(taken.now, taken.patience(None), teller)
     }
 
-    /// Reads a recorded answer, and notes what it says of its request.
-    fn read_recorded(&mut self, frame: RawFrame<'_>, taken: Taken) -> Result<Answer, AllocError> {
-        let request = self.sides.recorded.note(frame)?;
-        let due = taken.due(self.asked.take(request));
-        let more = has_flag(frame, MORE_TO_COME);
-        if more {
-            self.asked.note(request, taken.micros)?;
-        } else {
-            let _ = self.sides.open.take(request);
-        }
-        Ok(Answer {
-            request,
-            more,
-            bytes: plain_bytes(self.alloc, frame)?,
-            due,
-        })
-    }
-
-    /// Awaits the counterpart of a recorded answer, or tells at once that it is missing, if nothing
-    /// more comes.
-    fn await_one<W: Write + Drop>(
-        &mut self,
-        recorded: Answer,
-        teller: &mut Teller<'_, W>,
-    ) -> io::Result<()> {
-        self.sides.recorded.push(recorded)?;
-        if self.channel.is_some() {
-            Ok(())
-        } else {
-            self.tell_lost(teller)
-        }
-    }
-
     /// Awaits a recorded answer for as long as the record took for it, and some time more, or
-    /// compares it, if its counterpart came.
+    /// compares it, if its counterpart came. If nothing more comes, it is missing at once.
     ///
     /// # Errors
     ///
@@ -293,59 +223,25 @@ impl Conn {
         taken: Taken,
         teller: &mut Teller<'_, W>,
     ) -> io::Result<()> {
-        let recorded = self.read_recorded(frame, taken)?;
-        match self.sides.received.take(recorded.request) {
-            Some(received) => self.compare(&recorded, &received, teller),
-            None => self.await_one(recorded, teller),
+        self.dialog.expect(frame, taken, &mut self.findings)?;
+        self.tell(teller)?;
+        if self.channel.is_none() && self.awaits() {
+            return self.tell_lost(teller);
         }
+        Ok(())
     }
 
-    /// Compares a recorded answer with the one that came.
-    fn compare<W: Write + Drop>(
-        &self,
-        recorded: &Answer,
-        received: &Answer,
-        teller: &mut Teller<'_, W>,
-    ) -> io::Result<()> {
-        let request = recorded.request;
-        teller.compare(self.number, request, &recorded.bytes, &received.bytes)
-    }
-
-    /// Takes the message that came, and lets go of it in the connection. Returns its bytes and the
-    /// request that it answers.
-    fn take_message(&mut self) -> Result<Option<Answer>, AllocError> {
+    /// Takes the message that came, and lets go of it in the connection.
+    fn take_message(&mut self) -> Result<(), AllocError> {
         let Some(channel) = &mut self.channel else {
-            return Ok(None);
+            return Ok(());
         };
         let Some(frame) = channel.message() else {
-            return Ok(None);
+            return Ok(());
         };
-        let request = self.sides.received.note(frame)?;
-        let more = has_flag(frame, MORE_TO_COME);
-        let bytes = plain_bytes(self.alloc, frame)?;
+        self.dialog.meet(frame, &mut self.findings)?;
         channel.release();
-        Ok(Some(Answer {
-            request,
-            more,
-            bytes,
-            due: None,
-        }))
-    }
-
-    /// Tells an answer that came late, or compares it with the recorded one, or keeps it until that
-    /// is read.
-    fn meet<W: Write + Drop>(
-        &mut self,
-        answer: Answer,
-        teller: &mut Teller<'_, W>,
-    ) -> io::Result<()> {
-        if self.sides.given_up.take(answer.request) {
-            return teller.tell_late(self.number, answer.request, &answer.bytes);
-        }
-        match self.sides.recorded.take(answer.request) {
-            Some(recorded) => self.compare(&recorded, &answer, teller),
-            None => Ok(self.sides.received.push(answer)?),
-        }
+        Ok(())
     }
 
     /// Receives until a message is whole.
@@ -365,9 +261,8 @@ impl Conn {
         for _ in 0..most {
             match self.receive()? {
                 Coming::Message => {
-                    if let Some(answer) = self.take_message()? {
-                        self.meet(answer, teller)?;
-                    }
+                    self.take_message()?;
+                    self.tell(teller)?;
                 }
                 end => return Ok(end),
             }
@@ -383,7 +278,7 @@ impl Conn {
     /// Returns an error if writing fails or memory runs out. A connection that fails is told.
     pub fn turn<W: Write + Drop>(
         &mut self,
-        now: Instant,
+        now: u64,
         teller: &mut Teller<'_, W>,
     ) -> io::Result<()> {
         if let Some(stall) = self.stall {
@@ -405,32 +300,20 @@ impl Conn {
     /// Returns an error if writing fails or memory runs out.
     pub fn expire<W: Write + Drop>(
         &mut self,
-        now: Instant,
+        now: u64,
         teller: &mut Teller<'_, W>,
     ) -> io::Result<()> {
-        if is_past(self.stall_due(), now) {
+        if self.stall.is_some_and(|stall| stall.due <= now) {
             let kind = ErrorKind::TimedOut;
             return self.fail(LinkFault { kind }, teller);
         }
-        for answer in self.sides.recorded.as_slice() {
-            if is_past(answer.due, now) {
-                teller.tell_missing(self.number, answer.request, &answer.bytes)?;
-                self.sides.given_up.add(answer.request)?;
-            }
-        }
-        self.sides.recorded.forget_due(now);
-        Ok(())
-    }
-
-    /// Returns up to when the server has to take more of what is to be sent, if something is and
-    /// there is such a moment.
-    fn stall_due(&self) -> Option<Instant> {
-        self.stall?.due
+        self.dialog.give_up(now, &mut self.findings)?;
+        self.tell(teller)
     }
 
     /// Returns the first moment up to which an answer is awaited, or bytes have to be sent.
-    pub fn least_due(&self) -> Option<Instant> {
-        earlier(self.sides.recorded.least_due(), self.stall_due())
+    pub fn least_due(&self) -> Option<u64> {
+        earlier(self.dialog.due_first(), self.stall.map(|stall| stall.due))
     }
 
     /// Counts the answers that are left at the end and that the record doesn't have: those to
@@ -440,16 +323,7 @@ impl Conn {
     ///
     /// Returns an error if writing fails or memory runs out.
     pub fn finish<W: Write + Drop>(&mut self, teller: &mut Teller<'_, W>) -> io::Result<()> {
-        for answer in self.sides.received.as_slice() {
-            if self.sides.open.count(answer.request) == 0 {
-                teller.tell_unexpected(self.number, answer.request, &answer.bytes)?;
-            } else {
-                teller.count_unrecorded();
-                if !answer.more {
-                    let _ = self.sides.open.take(answer.request);
-                }
-            }
-        }
-        Ok(())
+        self.dialog.finish(&mut self.findings)?;
+        self.tell(teller)
     }
 }

@@ -7,7 +7,7 @@
 //! connections are served in one thread.
 //!
 //! Uses wire_frames, wire_stream, bson_doc, bson_json and sockets. Used by bsonproxy. Read first:
-//! `options`, `ignored`, `answers`, and then `conn` and `player`.
+//! `specs/Matchings.antt`, `matching`, `pace`, `ignored`, and then `conn` and `player`.
 #![tactic(auto)]
 
 mod answers;
@@ -15,10 +15,15 @@ mod asked;
 mod channel;
 mod conn;
 mod content;
+mod dialog;
 mod fault;
+mod finding;
 mod flags;
+mod follows;
 mod ignored;
 mod input_fault;
+pub mod laws;
+mod matching;
 mod options;
 mod pace;
 mod piece;
@@ -28,6 +33,7 @@ mod replaying;
 mod requests;
 mod tally;
 mod teller;
+mod watch;
 
 pub use fault::ReplayFault;
 pub use options::ReplayOptions;

@@ -1,9 +1,8 @@
-//! Says when records are taken, and compares moments.
+//! Says when records are taken. The moments of a replay are microseconds since it began, and the
+//! times of records microseconds since the earliest one that a record can have.
 
-ghost use Rattle.std.specs.Prelude.{◌≡◌, ◌*◌, ◌/◌, None, is_none, max, min};
-ghost use Rattle.replay.specs.Paces.{IsTimed};
-
-use std::time::{Duration, Instant};
+ghost use Rattle.std.specs.Prelude.{◌≡◌, ◌&&◌, None, is_none, not};
+ghost use Rattle.replay.specs.Paces.{due_at, least, patience_of, plus, scaled, taken_at};
 
 /// How long an answer is awaited, in microseconds, beside as long as the record took for it.
 const PATIENCE: u64 = 5_000_000;
@@ -11,29 +10,33 @@ const PATIENCE: u64 = 5_000_000;
 /// Where the clock and the times of the record stood when the first record was taken.
 #[derive(Clone, Copy)]
 struct Begun {
-    now: Instant,
-    micros: i64,
+    now: u64,
+    micros: u64,
 }
 
 /// When a record is taken, and the times of it and of the record before it.
 #[derive(Clone, Copy)]
 pub struct Taken {
-    pub now: Instant,
-    pub micros: i64,
-    pub last: i64,
+    pub now: u64,
+    pub micros: u64,
+    pub last: u64,
 }
 
 impl Taken {
-    /// Returns how long is waited for what the record has, and began when a record of the time
-    /// `since` was taken, or the one before it if that isn't known.
-    pub fn patience(self, since: Option<i64>) -> Duration {
-        let gap = between(since.unwrap_or(self.last), self.micros);
-        Duration::from_micros(gap.saturating_add(PATIENCE))
+    /// Returns for how many microseconds is waited for what the record has, and began when a record
+    /// of the time `since` was taken, or the one before it if that isn't known.
+    pub fn patience(self, since: Option<u64>) -> u64
+        ensures { result ≡ patience_of self since }
+    {
+        let gap = self.micros.saturating_sub(since.unwrap_or(self.last));
+        gap.saturating_add(PATIENCE)
     }
 
     /// Returns up to when is waited for that, from now on.
-    pub fn due(self, since: Option<i64>) -> Option<Instant> {
-        self.now.checked_add(self.patience(since))
+    pub fn due(self, since: Option<u64>) -> u64
+        ensures { result ≡ plus self.now (patience_of self since) }
+    {
+        self.now.saturating_add(self.patience(since))
     }
 }
 
@@ -43,7 +46,7 @@ pub enum Timing {
     /// Now.
     Now(Taken),
     /// Not before this moment.
-    At(Instant),
+    At(u64),
 }
 
 /// When the records are taken.
@@ -53,44 +56,41 @@ pub struct Pace {
     speed: Option<u64>,
     begun: Option<Begun>,
     /// The time of the record that was taken last.
-    last: Option<i64>,
+    last: Option<u64>,
 }
 
 /// Returns the earlier one of two moments, or the one that there is.
-pub fn earlier(a: Option<Instant>, b: Option<Instant>) -> Option<Instant> {
-    let Some(first) = a else {
-        return b;
-    };
-    match b {
-        Some(second) if second < first => b,
-        _ => a,
+pub fn earlier(a: Option<u64>, b: Option<u64>) -> Option<u64>
+    ensures { result ≡ least a b }
+{
+    match (a, b) {
+        (Some(a), Some(b)) => Some(a.min(b)),
+        (Some(a), None) => Some(a),
+        (None, b) => b,
     }
-}
-
-/// Returns the later one of two moments up to which is waited. Where there is none, there is no end.
-pub fn later(a: Option<Instant>, b: Option<Instant>) -> Option<Instant> {
-    Some(a?.max(b?))
-}
-
-/// Returns true if there is a moment, and it isn't later than `now`.
-pub fn is_past(due: Option<Instant>, now: Instant) -> bool {
-    match due {
-        Some(due) => due <= now,
-        None => false,
-    }
-}
-
-/// Returns how many microseconds lie between two times, or 0 if the second one is the earlier.
-fn between(from: i64, to: i64) -> u64 {
-    if to < from { 0 } else { to.abs_diff(from) }
 }
 
 /// Returns a number of microseconds at a speed in percent.
 fn scaled(micros: u64, speed: u64) -> u64
-    ensures { result ≡ min (micros * 100 / max speed 1) 18446744073709551615 }
+    ensures { result ≡ scaled micros speed }
 {
     let parts = u128::from(micros) * 100 / u128::from(speed.max(1));
     u64::try_from(parts).unwrap_or(u64::MAX)
+}
+
+impl Begun {
+    /// Returns the moment before which a record of this time isn't taken.
+    fn due(self, speed: Option<u64>, micros: u64) -> u64
+        ensures { result ≡ due_at self speed micros }
+    {
+        match speed {
+            Some(speed) => {
+                let late = scaled(micros.saturating_sub(self.micros), speed);
+                self.now.saturating_add(late)
+            }
+            None => 0,
+        }
+    }
 }
 
 impl Pace {
@@ -107,38 +107,26 @@ impl Pace {
         }
     }
 
-    /// Returns true if each record waits for the answers that were recorded before it.
-    pub fn waits_for_answers(&self) -> bool
-        ensures { result ≡ is_none self.now.speed }
+    /// Returns true if the next record may be taken once its time has come: all requests were sent,
+    /// and unless records are taken at their times, no answer is awaited.
+    pub fn may_go_on(&self, is_sent: bool, awaits: bool) -> bool
+        ensures { result ≡ (is_sent && not (is_none self.now.speed && awaits)) }
     {
-        self.speed.is_none()
-    }
-
-    /// Returns the moment at which a record of this time is taken, if there is one.
-    fn due(&mut self, now: Instant, micros: i64) -> Option<Instant>
-        ensures last { self.new.last ≡ self.old.last }
-        ensures speed { self.new.speed ≡ self.old.speed }
-        ensures none { self.old.speed ≡ None → result ≡ None }
-    {
-        let speed = self.speed?;
-        let begun = self.begun.unwrap_or(Begun { now, micros });
-        self.begun = Some(begun);
-        let late = scaled(between(begun.micros, micros), speed);
-        begun.now.checked_add(Duration::from_micros(late))
+        is_sent && !(self.speed.is_none() && awaits)
     }
 
     /// Returns when a record of this time is taken. If that is now, notes it.
-    pub fn take(&mut self, now: Instant, micros: i64) -> Timing
-        ensures timed { IsTimed now micros self.old.last self.new.last result }
-        ensures speed { self.new.speed ≡ self.old.speed }
+    pub fn take(&mut self, now: u64, micros: u64) -> Timing
+        ensures { (result, self.new) ≡ taken_at now micros self.old }
     {
-        match self.due(now, micros) {
-            Some(due) if due > now => Timing::At(due),
-            _ => {
-                let last = self.last.unwrap_or(micros);
-                self.last = Some(micros);
-                Timing::Now(Taken { now, micros, last })
-            }
+        let begun = self.begun.unwrap_or(Begun { now, micros });
+        self.begun = Some(begun);
+        let due = begun.due(self.speed, micros);
+        if now < due {
+            return Timing::At(due);
         }
+        let last = self.last.unwrap_or(micros);
+        self.last = Some(micros);
+        Timing::Now(Taken { now, micros, last })
     }
 }

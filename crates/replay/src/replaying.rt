@@ -11,6 +11,7 @@ use crate::player::Player;
 use crate::records::Records;
 use crate::tally::Tally;
 use crate::teller::Teller;
+use crate::watch::Watch;
 use mio::Events;
 use sockets::{EVENTS, address_of};
 use std::alloc::{AllocError, Global};
@@ -19,10 +20,10 @@ use std::io;
 use std::io::{BufWriter, Read, Write};
 use std::net::{Net, SocketAddr};
 use std::rt::Files;
-use std::time::{Clock, Duration, Instant};
+use std::time::Clock;
 
-/// How many milliseconds answers may come in behind the last one that is awaited.
-const LINGER: u64 = 200;
+/// How many microseconds answers may come in behind the last one that is awaited.
+const LINGER: u64 = 200_000;
 
 /// What a replay came to.
 #[derive(Clone, Copy)]
@@ -59,62 +60,67 @@ fn names_of<'a>(alloc: Global, text: Option<&'a str>) -> Result<Vec<&'a str>, Al
     Ok(names)
 }
 
-/// The records, what plays them, and when.
-#[derive(Drop)]
-struct Replay<'a, F: Read + Drop, W: Write + Drop> {
-    records: Records<F>,
-    player: Player<'a, W>,
+/// When the records are taken, and whether any is left.
+#[derive(Clone, Copy)]
+struct Course {
+    watch: Watch,
     pace: Pace,
     /// No record is left.
     is_over: bool,
 }
 
-impl<'a, F: Read + Drop, W: Write + Drop> Replay<'a, F, W> {
-    /// Returns true if the next record may be taken: all requests were sent, and unless records are
-    /// taken at their times, all answers came that are recorded before it.
-    fn may_go_on(&self) -> bool {
-        self.player.is_sent() && !(self.pace.waits_for_answers() && self.player.awaits())
-    }
-
-    /// Reads on until a record is held. Returns false if there are no more.
-    fn read_one(&mut self) -> Result<bool, ReplayFault> {
-        match self.records.read_one() {
-            Ok(has_one) => {
-                if !has_one {
-                    self.is_over = true;
-                }
-                Ok(has_one)
-            }
-            Err(error) => Err(ReplayFault::Records(error)),
-        }
-    }
-
+impl Course {
     /// Takes the record that is held, unless its time hasn't come. Returns that time then.
-    fn take_one<R: Net + Clock>(&mut self, rt: &R) -> io::Result<Option<Instant>> {
-        let Some(record) = self.records.record() else {
+    fn take_one<R: Net + Clock, F: Read + Drop, W: Write + Drop>(
+        &mut self,
+        rt: &R,
+        records: &mut Records<F>,
+        player: &mut Player,
+        teller: &mut Teller<'_, W>,
+    ) -> io::Result<Option<u64>> {
+        let Some(record) = records.record() else {
             return Ok(None);
         };
-        match self.pace.take(Instant::now(rt)?, record.head().micros) {
+        // Times before 1970 are negative.
+        let micros = record.head().micros.abs_diff(i64::MIN);
+        match self.pace.take(self.watch.now(rt)?, micros) {
             Timing::Now(taken) => {
-                self.player.take(rt, record, taken)?;
-                self.records.release();
+                player.take(rt, record, taken, teller)?;
+                records.release();
                 Ok(None)
             }
             Timing::At(due) => Ok(Some(due)),
         }
     }
 
+    /// Reads on until a record is held. Returns false if there are no more.
+    fn read_one<F: Read + Drop>(&mut self, records: &mut Records<F>) -> Result<bool, ReplayFault> {
+        match records.read_one() {
+            Ok(has_one) => {
+                self.is_over = self.is_over || !has_one;
+                Ok(has_one)
+            }
+            Err(error) => Err(ReplayFault::Records(error)),
+        }
+    }
+
     /// Takes records, as many as may be taken now. Returns the time of the next one, if that hasn't
     /// come.
-    fn take_some<R: Net + Clock>(&mut self, rt: &R) -> Result<Option<Instant>, ReplayFault> {
+    fn take_some<R: Net + Clock, F: Read + Drop, W: Write + Drop>(
+        &mut self,
+        rt: &R,
+        records: &mut Records<F>,
+        player: &mut Player,
+        teller: &mut Teller<'_, W>,
+    ) -> Result<Option<u64>, ReplayFault> {
         for _ in 0..u64::MAX {
-            if !self.may_go_on() {
+            if !self.pace.may_go_on(player.is_sent(), player.awaits()) {
                 break;
             }
-            if !self.read_one()? {
+            if !self.read_one(records)? {
                 break;
             }
-            if let Some(due) = self.take_one(rt)? {
+            if let Some(due) = self.take_one(rt, records, player, teller)? {
                 return Ok(Some(due));
             }
         }
@@ -122,50 +128,61 @@ impl<'a, F: Read + Drop, W: Write + Drop> Replay<'a, F, W> {
     }
 
     /// Takes all records, up to the last answer that is awaited.
-    fn play<R: Net + Clock>(
+    fn play<R: Net + Clock, F: Read + Drop, W: Write + Drop>(
         &mut self,
         rt: &R,
         events: &mut Events<Global>,
+        records: &mut Records<F>,
+        player: &mut Player,
+        teller: &mut Teller<'_, W>,
     ) -> Result<(), ReplayFault> {
         for _ in 0..u64::MAX {
-            let until = self.take_some(rt)?;
-            if self.is_over && self.player.is_sent() && !self.player.awaits() {
+            let until = self.take_some(rt, records, player, teller)?;
+            if self.is_over && player.is_sent() && !player.awaits() {
                 break;
             }
-            self.player.turn(rt, events, until)?;
+            player.turn(rt, events, until, teller)?;
         }
         Ok(())
     }
 
     /// Takes answers that come in late.
-    fn linger<R: Net + Clock>(&mut self, rt: &R, events: &mut Events<Global>) -> io::Result<()> {
-        let Some(end) = Instant::now(rt)?.checked_add(Duration::from_millis(LINGER)) else {
-            return Ok(());
-        };
+    fn linger<R: Net + Clock, W: Write + Drop>(
+        &self,
+        rt: &R,
+        events: &mut Events<Global>,
+        player: &mut Player,
+        teller: &mut Teller<'_, W>,
+    ) -> io::Result<()> {
+        let end = self.watch.now(rt)?.saturating_add(LINGER);
         for _ in 0..u64::MAX {
-            if Instant::now(rt)? >= end {
+            if self.watch.now(rt)? >= end {
                 break;
             }
-            self.player.turn(rt, events, Some(end))?;
+            player.turn(rt, events, Some(end), teller)?;
         }
         Ok(())
     }
+}
 
-    /// Plays the records, and tells what came of it.
-    fn run<R: Net + Clock>(
-        &mut self,
-        rt: &R,
-        events: &mut Events<Global>,
-    ) -> Result<Outcome, ReplayFault>
-        ensures { IfOk result (λ outcome.
-            IsOutcome self.new.records.fault self.new.player.teller.tally outcome) }
-    {
-        self.play(rt, events)?;
-        self.linger(rt, events)?;
-        let fault = self.records.fault();
-        let tally = self.player.finish(fault)?;
-        Ok(outcome_of(fault, tally))
-    }
+/// Plays the records, and tells what came of it.
+fn play_all<R: Net + Clock, F: Read + Drop, W: Write + Drop>(
+    rt: &R,
+    course: Course,
+    events: &mut Events<Global>,
+    records: &mut Records<F>,
+    player: &mut Player,
+    teller: &mut Teller<'_, W>,
+) -> Result<Outcome, ReplayFault>
+    ensures { IfOk result (λ outcome. IsOutcome records.new.fault teller.new.tally outcome) }
+{
+    let mut course = course;
+    course.play(rt, events, records, player, teller)?;
+    course.linger(rt, events, player, teller)?;
+    player.finish(teller)?;
+    let fault = records.fault();
+    teller.finish(fault)?;
+    Ok(outcome_of(fault, teller.tally()))
 }
 
 /// Plays these records to the server at an address, at a pace.
@@ -174,17 +191,20 @@ fn play_records<R: Net + Clock, F: Read + Drop, W: Write + Drop>(
     alloc: Global,
     server: SocketAddr,
     pace: Pace,
-    records: Records<F>,
-    teller: Teller<'_, W>,
-) -> Result<Outcome, ReplayFault> {
+    records: &mut Records<F>,
+    teller: &mut Teller<'_, W>,
+) -> Result<Outcome, ReplayFault>
+    ensures { IfOk result (λ outcome. IsOutcome records.new.fault teller.new.tally outcome) }
+{
+    let watch = Watch::start(rt)?;
     let mut events = Events::with_capacity(alloc, EVENTS)?;
-    let mut replay = Replay {
-        records,
-        player: Player::new(rt, alloc, server, teller)?,
+    let mut player = Player::new(rt, alloc, server, watch)?;
+    let course = Course {
+        watch,
         pace,
         is_over: false,
     };
-    replay.run(rt, &mut events)
+    play_all(rt, course, &mut events, records, &mut player, teller)
 }
 
 /// Plays the records that a reader gives, to the server at an address, without comparing the fields
@@ -196,11 +216,11 @@ fn play_to<R: Net + Clock, F: Read + Drop, W: Write + Drop>(
     pace: Pace,
     names: &[&str],
     reader: F,
-    out: W,
+    out: &mut W,
 ) -> Result<Outcome, ReplayFault> {
-    let teller = Teller::new(alloc, names, BufWriter::new(alloc, out)?);
+    let mut teller = Teller::new(alloc, names, out);
     match Records::new(alloc, reader) {
-        Ok(records) => play_records(rt, alloc, server, pace, records, teller),
+        Ok(mut records) => play_records(rt, alloc, server, pace, &mut records, &mut teller),
         Err(error) => Err(ReplayFault::Records(error)),
     }
 }
@@ -219,7 +239,8 @@ fn run_over<R: Net + Clock, F: Read + Drop, W: Write + Drop>(
     };
     let names = names_of(alloc, options.ignore)?;
     let pace = Pace::new(options.speed);
-    play_to(rt, alloc, server, pace, names.as_slice(), reader, out)
+    let mut out = BufWriter::new(alloc, out)?;
+    play_to(rt, alloc, server, pace, names.as_slice(), reader, &mut out)
 }
 
 /// Sends what the clients of a file of records sent to the server, each connection of the file over

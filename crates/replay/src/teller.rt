@@ -4,12 +4,13 @@ ghost use Rattle.std.specs.Prelude.{◌≡◌, ◌≤◌, ◌⊎◌, List, OnErr
 ghost use Rattle.bson_elem.specs.{Tree};
 ghost use Rattle.bson_raw.specs.{DocumentSplit};
 ghost use Rattle.wire_msg.specs.{IsMessage, Message, SpellsMsg};
-ghost use Rattle.replay.specs.Counts.{HasCounted, one_more};
+ghost use Rattle.replay.specs.Counts.{HasCounted, IsCounted, one_more};
 ghost use Rattle.replay.specs.Held.{IsReply};
 ghost use Rattle.replay.specs.Same.{AreSameDocuments, AreSameMessages};
 
 use crate::channel::Broken;
 use crate::content::{are_same_answers, write_answer};
+use crate::finding::Finding;
 use crate::input_fault::InputFault;
 use crate::tally::Tally;
 use std::alloc::Global;
@@ -78,11 +79,38 @@ impl<'a, W: Write + Drop> Teller<'a, W> {
     }
 
     /// Writes what became of the answer to this request, on the connection of this number.
-    fn write_head(&mut self, number: u64, what: &str, request: i32) -> io::Result<()>
+    fn write_head(&mut self, number: u64, what: &str, request: u32) -> io::Result<()>
         ensures kept { self.new.tally ≡ self.old.tally }
         ensures names { self.new.names ≡ self.old.names }
     {
-        writeln!(self.out, "{number} {what} id {request}")
+        writeln!(self.out, "{number} {what} id {}", request.cast_signed())
+    }
+
+    /// Tells what was found of an answer on the connection of this number, and counts it.
+    ///
+    /// # Errors
+    ///
+    /// Returns an error if writing fails or memory runs out.
+    pub fn tell(&mut self, number: u64, finding: &Finding) -> io::Result<()>
+        ensures counted { OnOk result (IsCounted finding.now self.old.tally self.new.tally) }
+        ensures names { self.new.names ≡ self.old.names }
+    {
+        match finding {
+            Finding::Compare { recorded, received } => {
+                self.compare(number, recorded.request, &recorded.bytes, &received.bytes)
+            }
+            Finding::Missing(recorded) => {
+                self.tell_missing(number, recorded.request, &recorded.bytes)
+            }
+            Finding::Late(received) => self.tell_late(number, received.request, &received.bytes),
+            Finding::Unexpected(received) => {
+                self.tell_unexpected(number, received.request, &received.bytes)
+            }
+            Finding::Unrecorded(_) => {
+                self.count_unrecorded();
+                Ok(())
+            }
+        }
     }
 
     /// Compares the recorded answer to this request with the one that came, on the connection of
@@ -94,7 +122,7 @@ impl<'a, W: Write + Drop> Teller<'a, W> {
     pub fn compare(
         &mut self,
         number: u64,
-        request: i32,
+        request: u32,
         recorded: &[u8],
         received: &[u8],
     ) -> io::Result<()>
@@ -132,6 +160,10 @@ impl<'a, W: Write + Drop> Teller<'a, W> {
         ensures failed { OnErr result ((self.new.tally ≡ self.old.tally)
             ⊎ (self.new.tally
             ≡ record self.old.tally { different = one_more self.old.tally.different })) }
+        ensures one { OnOk result ((self.new.tally
+            ≡ record self.old.tally { same = one_more self.old.tally.same })
+            ⊎ (self.new.tally
+            ≡ record self.old.tally { different = one_more self.old.tally.different })) }
         ensures names { self.new.names ≡ self.old.names }
     {
         if are_same_answers(self.alloc, self.names, recorded, received)? {
@@ -154,7 +186,7 @@ impl<'a, W: Write + Drop> Teller<'a, W> {
     fn tell_different(
         &mut self,
         number: u64,
-        request: i32,
+        request: u32,
         recorded: &[u8],
         received: &[u8],
     ) -> io::Result<()>
@@ -173,7 +205,7 @@ impl<'a, W: Write + Drop> Teller<'a, W> {
     /// # Errors
     ///
     /// Returns an error if writing fails or memory runs out.
-    pub fn tell_missing(&mut self, number: u64, request: i32, recorded: &[u8]) -> io::Result<()>
+    pub fn tell_missing(&mut self, number: u64, request: u32, recorded: &[u8]) -> io::Result<()>
         ensures counted { self.new.tally
             ≡ record self.old.tally { missing = one_more self.old.tally.missing } }
         ensures names { self.new.names ≡ self.old.names }
@@ -188,7 +220,7 @@ impl<'a, W: Write + Drop> Teller<'a, W> {
     /// # Errors
     ///
     /// Returns an error if writing fails or memory runs out.
-    pub fn tell_late(&mut self, number: u64, request: i32, received: &[u8]) -> io::Result<()>
+    pub fn tell_late(&mut self, number: u64, request: u32, received: &[u8]) -> io::Result<()>
         ensures counted { self.new.tally
             ≡ record self.old.tally { late = one_more self.old.tally.late } }
         ensures names { self.new.names ≡ self.old.names }
@@ -214,7 +246,7 @@ impl<'a, W: Write + Drop> Teller<'a, W> {
     /// # Errors
     ///
     /// Returns an error if writing fails or memory runs out.
-    pub fn tell_unexpected(&mut self, number: u64, request: i32, received: &[u8]) -> io::Result<()>
+    pub fn tell_unexpected(&mut self, number: u64, request: u32, received: &[u8]) -> io::Result<()>
         ensures counted { self.new.tally
             ≡ record self.old.tally { unexpected = one_more self.old.tally.unexpected } }
         ensures names { self.new.names ≡ self.old.names }

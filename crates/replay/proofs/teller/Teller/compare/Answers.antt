@@ -1,4 +1,4 @@
-use Rattle.std.proofs.Common.{◌∙◌, sym, true≢false}
+use Rattle.std.proofs.Common.{◌∙◌, inl, inr, sym, true≢false}
 use Rattle.replay.proofs.Replies.{counted}
 use Rattle.replay.proofs.teller.Teller.compare.Goals as goal
 
@@ -22,3 +22,9 @@ returns-clause-replies g c = λ ts us rest other a b s t.
       (λ same. absurd (true≢false (sym (told.1 same) ∙ c.if-branch.false))),
       (λ differ. c.tell_different.ensures.counted),
     )
+
+pub returns-then-branch-clause-one : goal.returns-then-branch-clause-one
+returns-then-branch-clause-one g c = inl c.count_same.ensures.counted
+
+pub returns-clause-one : goal.returns-clause-one
+returns-clause-one g c = counted c.tell_different.result (inr c.tell_different.ensures.counted)

@@ -1,0 +1,27 @@
+use Rattle.std.proofs.Common.{◌≡◌, sym, ◌∙◌, rules, tests}
+use Rattle.std.specs.Prelude.{position}
+use Rattle.std.proofs.lemmas.Iterator.Consumers.{YieldsList-from_deque}
+use Rattle.std.proofs.lemmas.Iterator.Search.{position_from_yields_List}
+use Rattle.replay.proofs.FirstOnes.{none_found, none_rest, taken_found, taken_left}
+use Rattle.replay.specs.Matchings.{is_to}
+use Rattle.replay.proofs.answers.Answers.take.Goals as goal
+
+pub returns-in-Some-clause-found : goal.returns-in-Some-clause-found
+returns-in-Some-clause-found c =
+    let at : c.position.result ≡ position (is_to c.args.request) c.args.self.now.list.items = position_from_yields_List (is_to c.args.request) _ _ c.position.result c.position.ensures.ran (YieldsList-from_deque c.args.self.now.list.items c.iter.ensures.rest) (λ x b q k. search (rules, tests)) in
+    taken_found (is_to c.args.request) c.args.self.now.list.items c.in-Some.i c.args.self.now.list.len c.remove.result (sym at ∙ c.in-Some.is) c.args.self.now.list.ok.0 c.remove.ensures.variant c.remove.ensures.value
+
+pub returns-in-Some-clause-rest : goal.returns-in-Some-clause-rest
+returns-in-Some-clause-rest c =
+    let at : c.position.result ≡ position (is_to c.args.request) c.args.self.now.list.items = position_from_yields_List (is_to c.args.request) _ _ c.position.result c.position.ensures.ran (YieldsList-from_deque c.args.self.now.list.items c.iter.ensures.rest) (λ x b q k. search (rules, tests)) in
+    taken_left (is_to c.args.request) c.args.self.now.list.items _ c.in-Some.i c.args.self.now.list.len c.remove.result (sym at ∙ c.in-Some.is) c.args.self.now.list.ok.0 c.remove.ensures.variant c.remove.ensures.items
+
+pub returns-in-None-clause-found : goal.returns-in-None-clause-found
+returns-in-None-clause-found c =
+    let at : c.position.result ≡ position (is_to c.args.request) c.args.self.now.list.items = position_from_yields_List (is_to c.args.request) _ _ c.position.result c.position.ensures.ran (YieldsList-from_deque c.args.self.now.list.items c.iter.ensures.rest) (λ x b q k. search (rules, tests)) in
+    none_found (is_to c.args.request) c.args.self.now.list.items (sym at ∙ c.in-None.is)
+
+pub returns-in-None-clause-rest : goal.returns-in-None-clause-rest
+returns-in-None-clause-rest c =
+    let at : c.position.result ≡ position (is_to c.args.request) c.args.self.now.list.items = position_from_yields_List (is_to c.args.request) _ _ c.position.result c.position.ensures.ran (YieldsList-from_deque c.args.self.now.list.items c.iter.ensures.rest) (λ x b q k. search (rules, tests)) in
+    none_rest (is_to c.args.request) c.args.self.now.list.items (sym at ∙ c.in-None.is)
