@@ -53,9 +53,7 @@ impl Pending {
     }
 
     /// Has the connections take another turn whose replies were held for long enough.
-    fn release(&mut self, clock: &impl Clock) -> Result<(), Stop>
-        ensures { OnOk result (StayDue self.old.again.keys.items self.new.again.keys.items) }
-    {
+    fn release(&mut self, clock: &impl Clock) -> Result<(), Stop> {
         for _ in 0..ROOM {
             match self.delays.take_due(clock)? {
                 Some(key) => self.again.push(key)?,
@@ -210,10 +208,7 @@ impl EventLoop {
         &mut self,
         rt: &R,
         events: &mut Events<Global>,
-    ) -> Result<(), Stop>
-        ensures { OnOk result (StayDue self.old.pending.again.keys.items
-            self.new.pending.again.keys.items) }
-    {
+    ) -> Result<(), Stop> {
         self.tell_backlog(rt);
         let held = self.pending.delays.least(rt)?;
         let has_more = !self.pending.again.is_empty();
