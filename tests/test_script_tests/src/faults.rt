@@ -13,9 +13,9 @@ on {"find": "c"} pass | 1 | Start
 on "find" pass | 1 | Start
 on find~ | 1 | Action
 # one~~on find pass~on find~ | 4 | Action
-on find {"a": 1 pass | 1 | Json { cause: NotJson, column: 9 }
-on find {a: 1} pass | 1 | Json { cause: NotJson, column: 2 }
-on find {"a": 1, "a": 2} pass | 1 | Json { cause: RepeatedName, column: 10 }
+on find {"a": 1 pass | 1 | Json { cause: the text is no JSON, column: 9 }
+on find {a: 1} pass | 1 | Json { cause: the text is no JSON, column: 2 }
+on find {"a": 1, "a": 2} pass | 1 | Json { cause: a name is repeated, column: 10 }
 on find 0500 pass | 1 | Filter
 on find 16000000026100020000006200026100020000006300 pass | 1 | Filter
 on find passs | 1 | Filter
@@ -29,8 +29,8 @@ on find pass pass | 1 | Action
 on find reply | 1 | Action
 on find reply {} {} | 1 | Action
 on find reply 05 | 1 | Action
-on find reply {"ok": } | 1 | Json { cause: NotJson, column: 8 }
-on find reply {"x": {"$oid": 1}} | 1 | Json { cause: WrongForm(ObjectId), column: 7 }
+on find reply {"ok": } | 1 | Json { cause: the text is no JSON, column: 8 }
+on find reply {"x": {"$oid": 1}} | 1 | Json { cause: an object is not of the form $oid, column: 7 }
 on find error 10107 NotWritablePrimary | 1 | Action
 on find delay 1s | 1 | Action
 on find cut | 1 | Action
