@@ -11,9 +11,12 @@ use Rattle.std.proofs.lemmas.List.{length-map, take_more, map-append, get_or-map
 use Rattle.std.proofs.lemmas.Slice.Eq.{bytes_eq-Decides}
 use Rattle.bson_doc.specs.declared.bson_values.Bson.{Bson}
 use Rattle.bson_doc.specs.declared.bson_values.Bson.TheVariants as values
-use Rattle.bson_doc.specs.contracts.bson_values.Bson.{the_type}
-use Rattle.bson_doc.specs.contracts.bson_values.BsonPartialEq.TheImpl.{ghosts}
-use denote.Enum.Declared.{tag_of}
+use Rattle.bson_raw.specs.declared.value.RawBson.{RawBson}
+use Rattle.bson_raw.specs.declared.value.RawBson.TheVariants as borrowed
+use Rattle.bson_raw.specs.contracts.value.RawBsonPartialEq.TheImpl.{ghosts as of_leaves}
+use Rattle.bson_raw.specs.RawBson.{Shows}
+use Rattle.bson_doc.specs.Leaves.{IsLeaf}
+use Rattle.bson_doc.specs.Formed.{IsFormedValue}
 use Rattle.bson_doc.specs.Bson.{value_of}
 use Rattle.bson_doc.specs.Codes.{coded_value, coded_values, coded_pairs}
 use Rattle.bson_elem.specs.declared.kinds.Kind.{Kind}
@@ -41,50 +44,6 @@ not_same c x y n = stays_false (same c x y) (λ e. n (same_is c x y e))
 pub as_long : (vs ws : List Bson) → map value_of vs ≡ map value_of ws → length vs ≡ length ws
 as_long vs ws e = sym (length-map vs value_of) ∙ ap length e ∙ length-map ws value_of
 
-pub other_kinds : (a b : Bson) → (tag_of the_type a ≡ tag_of the_type b → ⊥) → false ≡ ghosts.eq a b
-other_kinds (values.Double x) (values.Double z) h = absurd (h refl)
-other_kinds (values.Double x) _ h = refl
-other_kinds (values.String x) (values.String z) h = absurd (h refl)
-other_kinds (values.String x) _ h = refl
-other_kinds (values.Document x) (values.Document z) h = absurd (h refl)
-other_kinds (values.Document x) _ h = refl
-other_kinds (values.Array x) (values.Array z) h = absurd (h refl)
-other_kinds (values.Array x) _ h = refl
-other_kinds (values.Binary x y) (values.Binary z w) h = absurd (h refl)
-other_kinds (values.Binary x y) _ h = refl
-other_kinds values.Undefined values.Undefined h = absurd (h refl)
-other_kinds values.Undefined _ h = refl
-other_kinds (values.ObjectId x) (values.ObjectId z) h = absurd (h refl)
-other_kinds (values.ObjectId x) _ h = refl
-other_kinds (values.Boolean x) (values.Boolean z) h = absurd (h refl)
-other_kinds (values.Boolean x) _ h = refl
-other_kinds (values.DateTime x) (values.DateTime z) h = absurd (h refl)
-other_kinds (values.DateTime x) _ h = refl
-other_kinds values.Null values.Null h = absurd (h refl)
-other_kinds values.Null _ h = refl
-other_kinds (values.Regex x y) (values.Regex z w) h = absurd (h refl)
-other_kinds (values.Regex x y) _ h = refl
-other_kinds (values.DbPointer x y) (values.DbPointer z w) h = absurd (h refl)
-other_kinds (values.DbPointer x y) _ h = refl
-other_kinds (values.Code x) (values.Code z) h = absurd (h refl)
-other_kinds (values.Code x) _ h = refl
-other_kinds (values.Symbol x) (values.Symbol z) h = absurd (h refl)
-other_kinds (values.Symbol x) _ h = refl
-other_kinds (values.CodeWithScope x y) (values.CodeWithScope z w) h = absurd (h refl)
-other_kinds (values.CodeWithScope x y) _ h = refl
-other_kinds (values.Int32 x) (values.Int32 z) h = absurd (h refl)
-other_kinds (values.Int32 x) _ h = refl
-other_kinds (values.Timestamp x y) (values.Timestamp z w) h = absurd (h refl)
-other_kinds (values.Timestamp x y) _ h = refl
-other_kinds (values.Int64 x) (values.Int64 z) h = absurd (h refl)
-other_kinds (values.Int64 x) _ h = refl
-other_kinds (values.Decimal128 x) (values.Decimal128 z) h = absurd (h refl)
-other_kinds (values.Decimal128 x) _ h = refl
-other_kinds values.MinKey values.MinKey h = absurd (h refl)
-other_kinds values.MinKey _ h = refl
-other_kinds values.MaxKey values.MaxKey h = absurd (h refl)
-other_kinds values.MaxKey _ h = refl
-
 -- a test is the comparison of two values where it is true for the same values alone
 agree : (p : Bool) (v w : TreeValue) → (p ≡ true → v ≡ w) → (v ≡ w → p ≡ true) → p ≡ same coded_value v w
 agree p v w f g = alike p (same coded_value v w) (λ e. is_same coded_value v w (f e)) (λ e. g (same_is coded_value v w e))
@@ -105,12 +64,12 @@ text_same k x z = agree (bytes_eq x z) _ _ (λ e. ap (λ (b : List ℕ). leaf_va
 number_same : (k : Kind) (x z : ℤ) → int_eq x z ≡ same coded_value (leaf_value k (number_value x)) (leaf_value k (number_value z))
 number_same k x z = agree (int_eq x z) _ _ (λ e. ap (λ (n : ℤ). leaf_value k (number_value n)) ((Decides-int_eq x z).0 e)) (λ e. (Decides-int_eq x z).1 cc)
 
-document_same : (k : Kind) (b : Beside) (x z : List (List ℕ × TreeValue)) → same coded_pairs x z ≡ same coded_value (document_value k b (tree_of x)) (document_value k b (tree_of z))
+pub document_same : (k : Kind) (b : Beside) (x z : List (List ℕ × TreeValue)) → same coded_pairs x z ≡ same coded_value (document_value k b (tree_of x)) (document_value k b (tree_of z))
 document_same k b x z =
     agree (same coded_pairs x z) _ _ (λ e. ap (λ (ps : List (List ℕ × TreeValue)). document_value k b (tree_of ps)) (same_is coded_pairs x z e))
     (λ e. is_same coded_pairs x z (one_document x z cc))
 
-array_same : (k : Kind) (b : Beside) (x z : List TreeValue) → same coded_values x z ≡ same coded_value (document_value k b (array_tree 0 x)) (document_value k b (array_tree 0 z))
+pub array_same : (k : Kind) (b : Beside) (x z : List TreeValue) → same coded_values x z ≡ same coded_value (document_value k b (array_tree 0 x)) (document_value k b (array_tree 0 z))
 array_same k b x z =
     agree (same coded_values x z) _ _ (λ e. ap (λ (vs : List TreeValue). document_value k b (array_tree 0 vs)) (same_is coded_values x z e))
     (λ e. is_same coded_values x z (one_array 0 x z cc))
@@ -148,7 +107,7 @@ pointer_same x z y w =
     agree (bytes_eq x z && bytes_eq y w) _ _ (λ e. let p = both (bytes_eq x z) (bytes_eq y w) e in λ i. leaf_value kinds.DbPointer (pointer_value ((bytes_eq-Decides x z).0 p.0 i) ((bytes_eq-Decides y w).0 p.1 i)))
     (λ e. and_true (bytes_eq x z) (bytes_eq y w) ((bytes_eq-Decides x z).1 cc) ((bytes_eq-Decides y w).1 cc))
 
-scope_same : (x z : List ℕ) (y w : List (List ℕ × TreeValue)) → (bytes_eq x z && same coded_pairs y w) ≡ same coded_value (document_value kinds.CodeWithScope (with_code x) (tree_of y)) (document_value kinds.CodeWithScope (with_code z) (tree_of w))
+pub scope_same : (x z : List ℕ) (y w : List (List ℕ × TreeValue)) → (bytes_eq x z && same coded_pairs y w) ≡ same coded_value (document_value kinds.CodeWithScope (with_code x) (tree_of y)) (document_value kinds.CodeWithScope (with_code z) (tree_of w))
 scope_same x z y w =
     agree (bytes_eq x z && same coded_pairs y w) _ _ (λ e. let p = both (bytes_eq x z) (same coded_pairs y w) e in λ i. document_value kinds.CodeWithScope (with_code ((bytes_eq-Decides x z).0 p.0 i)) (tree_of (same_is coded_pairs y w p.1 i)))
     (λ e. and_true (bytes_eq x z) (same coded_pairs y w) ((bytes_eq-Decides x z).1 cc) (is_same coded_pairs y w (one_document y w cc)))
@@ -158,56 +117,97 @@ timestamp_same x z y w =
     agree (nat_eq x z && nat_eq y w) _ _ (λ e. let p = both (nat_eq x z) (nat_eq y w) e in λ i. leaf_value kinds.Timestamp (timestamp_value (number_is x z p.0 i) (number_is y w p.1 i)))
     (λ e. and_true (nat_eq x z) (nat_eq y w) (is_number x z cc) (is_number y w cc))
 
-pub bson_same : (a b : Bson) → ghosts.eq a b ≡ same coded_value (value_of a) (value_of b)
-bson_same (values.Double x) (values.Double z) = raw_same kinds.Double x z
-bson_same (values.Double x) _ = refl
-bson_same (values.String x) (values.String z) = text_same kinds.String (string_bytes x) (string_bytes z)
-bson_same (values.String x) _ = refl
-bson_same (values.Document x) (values.Document z) = document_same kinds.Document no_code x z
-bson_same (values.Document x) _ = refl
-bson_same (values.Array x) (values.Array z) = array_same kinds.Array no_code x z
-bson_same (values.Array x) _ = refl
-bson_same (values.Binary x y) (values.Binary z w) = binary_same x z y.items w.items
-bson_same (values.Binary x y) _ = refl
-bson_same values.Undefined values.Undefined = sym (is_same coded_value (value_of values.Undefined) (value_of values.Undefined) refl)
-bson_same values.Undefined _ = refl
-bson_same (values.ObjectId x) (values.ObjectId z) = raw_same kinds.ObjectId x z
-bson_same (values.ObjectId x) _ = refl
-bson_same (values.Boolean x) (values.Boolean z) = boolean_same x z
-bson_same (values.Boolean x) _ = refl
-bson_same (values.DateTime x) (values.DateTime z) = number_same kinds.DateTime x z
-bson_same (values.DateTime x) _ = refl
-bson_same values.Null values.Null = sym (is_same coded_value (value_of values.Null) (value_of values.Null) refl)
-bson_same values.Null _ = refl
-bson_same (values.Regex x y) (values.Regex z w) = regex_same (string_bytes x) (string_bytes z) (string_bytes y) (string_bytes w)
-bson_same (values.Regex x y) _ = refl
-bson_same (values.DbPointer x y) (values.DbPointer z w) = pointer_same (string_bytes x) (string_bytes z) y w
-bson_same (values.DbPointer x y) _ = refl
-bson_same (values.Code x) (values.Code z) = text_same kinds.Code (string_bytes x) (string_bytes z)
-bson_same (values.Code x) _ = refl
-bson_same (values.Symbol x) (values.Symbol z) = text_same kinds.Symbol (string_bytes x) (string_bytes z)
-bson_same (values.Symbol x) _ = refl
-bson_same (values.CodeWithScope x y) (values.CodeWithScope z w) = scope_same (string_bytes x) (string_bytes z) y w
-bson_same (values.CodeWithScope x y) _ = refl
-bson_same (values.Int32 x) (values.Int32 z) = number_same kinds.Int32 x z
-bson_same (values.Int32 x) _ = refl
-bson_same (values.Timestamp x y) (values.Timestamp z w) = timestamp_same x z y w
-bson_same (values.Timestamp x y) _ = refl
-bson_same (values.Int64 x) (values.Int64 z) = number_same kinds.Int64 x z
-bson_same (values.Int64 x) _ = refl
-bson_same (values.Decimal128 x) (values.Decimal128 z) = raw_same kinds.Decimal128 x z
-bson_same (values.Decimal128 x) _ = refl
-bson_same values.MinKey values.MinKey = sym (is_same coded_value (value_of values.MinKey) (value_of values.MinKey) refl)
-bson_same values.MinKey _ = refl
-bson_same values.MaxKey values.MaxKey = sym (is_same coded_value (value_of values.MaxKey) (value_of values.MaxKey) refl)
-bson_same values.MaxKey _ = refl
+-- the value of a tree that a borrowed value without a document lends
+shown : RawBson → TreeValue
+shown (borrowed.Double x) = leaf_value kinds.Double (raw_value x)
+shown (borrowed.String x) = leaf_value kinds.String (text_value x.now)
+shown (borrowed.Binary x y) = leaf_value kinds.Binary (binary_value x y.now)
+shown borrowed.Undefined = leaf_value kinds.Undefined (raw_value [])
+shown (borrowed.ObjectId x) = leaf_value kinds.ObjectId (raw_value x)
+shown (borrowed.Boolean x) = leaf_value kinds.Boolean (boolean_value x)
+shown (borrowed.DateTime x) = leaf_value kinds.DateTime (number_value x)
+shown borrowed.Null = leaf_value kinds.Null (raw_value [])
+shown (borrowed.Regex x y) = leaf_value kinds.Regex (regex_value x.now y.now)
+shown (borrowed.DbPointer x y) = leaf_value kinds.DbPointer (pointer_value x.now y)
+shown (borrowed.Code x) = leaf_value kinds.Code (text_value x.now)
+shown (borrowed.Symbol x) = leaf_value kinds.Symbol (text_value x.now)
+shown (borrowed.Int32 x) = leaf_value kinds.Int32 (number_value x)
+shown (borrowed.Timestamp x y) = leaf_value kinds.Timestamp (timestamp_value x y)
+shown (borrowed.Int64 x) = leaf_value kinds.Int64 (number_value x)
+shown (borrowed.Decimal128 x) = leaf_value kinds.Decimal128 (raw_value x)
+shown borrowed.MinKey = leaf_value kinds.MinKey (raw_value [])
+shown borrowed.MaxKey = leaf_value kinds.MaxKey (raw_value [])
+shown _ = document_value kinds.Document no_code (tree_of [])
+
+leaf_is : (r : RawBson) (v : TreeValue) → IsLeaf r → Shows r v → v ≡ shown r
+unfolding shown
+leaf_is (borrowed.Document x) v leaf is = absurd leaf
+leaf_is (borrowed.Array x) v leaf is = absurd leaf
+leaf_is (borrowed.CodeWithScope x y) v leaf is = absurd leaf
+leaf_is _ v leaf is = is
+
+leaf_same : (a b : RawBson) → IsLeaf a → IsLeaf b → of_leaves.eq a b ≡ same coded_value (shown a) (shown b)
+unfolding shown
+leaf_same (borrowed.Document x) b l m = absurd l
+leaf_same (borrowed.Array x) b l m = absurd l
+leaf_same (borrowed.CodeWithScope x y) b l m = absurd l
+leaf_same (borrowed.Double x) (borrowed.Double z) l m = raw_same kinds.Double x z
+leaf_same (borrowed.Double x) _ l m = refl
+leaf_same (borrowed.String x) (borrowed.String z) l m = text_same kinds.String x.now z.now
+leaf_same (borrowed.String x) _ l m = refl
+leaf_same (borrowed.Binary x y) (borrowed.Binary z w) l m = binary_same x z y.now w.now
+leaf_same (borrowed.Binary x y) _ l m = refl
+leaf_same borrowed.Undefined borrowed.Undefined l m = sym (is_same coded_value (shown borrowed.Undefined) (shown borrowed.Undefined) refl)
+leaf_same borrowed.Undefined _ l m = refl
+leaf_same (borrowed.ObjectId x) (borrowed.ObjectId z) l m = raw_same kinds.ObjectId x z
+leaf_same (borrowed.ObjectId x) _ l m = refl
+leaf_same (borrowed.Boolean x) (borrowed.Boolean z) l m = boolean_same x z
+leaf_same (borrowed.Boolean x) _ l m = refl
+leaf_same (borrowed.DateTime x) (borrowed.DateTime z) l m = number_same kinds.DateTime x z
+leaf_same (borrowed.DateTime x) _ l m = refl
+leaf_same borrowed.Null borrowed.Null l m = sym (is_same coded_value (shown borrowed.Null) (shown borrowed.Null) refl)
+leaf_same borrowed.Null _ l m = refl
+leaf_same (borrowed.Regex x y) (borrowed.Regex z w) l m = regex_same x.now z.now y.now w.now
+leaf_same (borrowed.Regex x y) _ l m = refl
+leaf_same (borrowed.DbPointer x y) (borrowed.DbPointer z w) l m = pointer_same x.now z.now y w
+leaf_same (borrowed.DbPointer x y) _ l m = refl
+leaf_same (borrowed.Code x) (borrowed.Code z) l m = text_same kinds.Code x.now z.now
+leaf_same (borrowed.Code x) _ l m = refl
+leaf_same (borrowed.Symbol x) (borrowed.Symbol z) l m = text_same kinds.Symbol x.now z.now
+leaf_same (borrowed.Symbol x) _ l m = refl
+leaf_same (borrowed.Int32 x) (borrowed.Int32 z) l m = number_same kinds.Int32 x z
+leaf_same (borrowed.Int32 x) _ l m = refl
+leaf_same (borrowed.Timestamp x y) (borrowed.Timestamp z w) l m = timestamp_same x z y w
+leaf_same (borrowed.Timestamp x y) _ l m = refl
+leaf_same (borrowed.Int64 x) (borrowed.Int64 z) l m = number_same kinds.Int64 x z
+leaf_same (borrowed.Int64 x) _ l m = refl
+leaf_same (borrowed.Decimal128 x) (borrowed.Decimal128 z) l m = raw_same kinds.Decimal128 x z
+leaf_same (borrowed.Decimal128 x) _ l m = refl
+leaf_same borrowed.MinKey borrowed.MinKey l m = sym (is_same coded_value (shown borrowed.MinKey) (shown borrowed.MinKey) refl)
+leaf_same borrowed.MinKey _ l m = refl
+leaf_same borrowed.MaxKey borrowed.MaxKey l m = sym (is_same coded_value (shown borrowed.MaxKey) (shown borrowed.MaxKey) refl)
+leaf_same borrowed.MaxKey _ l m = refl
+
+-- two values that hold no document are equal where those that they lend are
+pub leaves_same : (a b : RawBson) (v w : TreeValue) → IsLeaf a × Shows a v × IsFormedValue v → IsLeaf b × Shows b w × IsFormedValue w
+    → of_leaves.eq a b ≡ same coded_value v w
+leaves_same a b v w l m = leaf_same a b l.0 m.0 ∙ (λ i. same coded_value (sym (leaf_is a v l.0 l.1) i) (sym (leaf_is b w m.0 m.1) i))
+
+-- two containers are equal where what they hold is
+pub seen_alike : (v w a b : TreeValue) (p : Bool) → v ≡ a → w ≡ b → p ≡ same coded_value a b → p ≡ same coded_value v w
+seen_alike v w a b p e f g = g ∙ (λ i. same coded_value (sym e i) (sym f i))
+
+-- two scopes whose codes differ aren't equal
+pub other_code : (x z : List ℕ) (y w : List (List ℕ × TreeValue)) → bytes_eq x z ≡ false
+    → false ≡ same coded_value (document_value kinds.CodeWithScope (with_code x) (tree_of y)) (document_value kinds.CodeWithScope (with_code z) (tree_of w))
+other_code x z y w e = rw e at (scope_same x z y w)
 
 -- ---- one value after another
 
 pub one_more : (vs ws : List Bson) (i : ℕ) (v w : Bson) → i < length vs → i < length ws → v ≡ get_or vs i v → w ≡ get_or ws i w → map value_of (take i vs) ≡ map value_of (take i ws)
-    → ghosts.eq v w ≡ true → map value_of (take (i + 1) vs) ≡ map value_of (take (i + 1) ws)
+    → same coded_value (value_of v) (value_of w) ≡ true → map value_of (take (i + 1) vs) ≡ map value_of (take (i + 1) ws)
 one_more vs ws i v w short short' is is' so_far e =
-    let values : value_of v ≡ value_of w = same_is coded_value (value_of v) (value_of w) (sym (bson_same v w) ∙ e) in
+    let values : value_of v ≡ value_of w = same_is coded_value (value_of v) (value_of w) e in
     let left : take (i + 1) vs ≡ take i vs ++ v ∷ [] = take_more vs i v short ∙ ap (λ (x : Bson). take i vs ++ x ∷ []) (sym is) in
     let right : take (i + 1) ws ≡ take i ws ++ w ∷ [] = take_more ws i w short' ∙ ap (λ (x : Bson). take i ws ++ x ∷ []) (sym is') in
     ap (map value_of) left ∙ map-append value_of (take i vs) (v ∷ []) ∙ (λ j. so_far j ++ values j ∷ []) ∙ sym (map-append value_of (take i ws) (w ∷ [])) ∙ sym (ap (map value_of) right)
@@ -215,10 +215,10 @@ one_more vs ws i v w short short' is is' so_far e =
 pub all_same : (vs ws : List Bson) (i : ℕ) → length vs ≤ i → length vs ≡ length ws → map value_of (take i vs) ≡ map value_of (take i ws) → map value_of vs ≡ map value_of ws
 all_same vs ws i over e so_far = sym (ap (map value_of) (take_all i vs over)) ∙ so_far ∙ ap (map value_of) (take_all i ws (omega (arith, e, over)))
 
-pub one_other : (vs ws : List Bson) (i : ℕ) (v w : Bson) → i < length vs → i < length ws → v ≡ get_or vs i v → w ≡ get_or ws i w → ghosts.eq v w ≡ false → map value_of vs ≡ map value_of ws → ⊥
+pub one_other : (vs ws : List Bson) (i : ℕ) (v w : Bson) → i < length vs → i < length ws → v ≡ get_or vs i v → w ≡ get_or ws i w → same coded_value (value_of v) (value_of w) ≡ false → map value_of vs ≡ map value_of ws → ⊥
 one_other vs ws i v w short short' is is' e all =
     let at : value_of v ≡ value_of w = ap value_of is ∙ sym (get_or-map value_of vs i v (value_of v) short) ∙ ap (λ (xs : List TreeValue). get_or xs i (value_of v)) all ∙ get_or-map value_of ws i w (value_of v) short' ∙ ap value_of (sym is') in
-    let t : ghosts.eq v w ≡ true = bson_same v w ∙ is_same coded_value (value_of v) (value_of w) at in
+    let t : same coded_value (value_of v) (value_of w) ≡ true = is_same coded_value (value_of v) (value_of w) at in
     cc
 
 -- ---- names

@@ -1,4 +1,3 @@
 -- The lemmas that proofs of other crates cite.
 pub use Rattle.bson_doc.proofs.Naming.{plain_where_named}
-pub use Rattle.bson_doc.proofs.Equal.{bson_same}
 pub use Rattle.bson_doc.proofs.Owned.{pairs_of_tree}

@@ -64,3 +64,14 @@ same_equiv c = record {
       (λ f. is_same c y z (sym (same_is c x y e) ∙ same_is c x z f))
       (λ f. is_same c x z (same_is c x y e ∙ same_is c y z f));
 }
+
+-- whether what is seen of two values is the same
+abbrev pub same_seen : {A B : Type 0} → Coded B → (A → B) → A → A → Bool
+same_seen c seen x y = same c (seen x) (seen y)
+
+pub same_seen_equiv : {A B : Type 0} (c : Coded B) (seen : A → B) → IsEquivalence (same_seen c seen)
+same_seen_equiv c seen = record {
+  refl = λ x. (same_equiv c).refl (seen x);
+  symm = λ x y. (same_equiv c).symm (seen x) (seen y);
+  congr = λ x y z. (same_equiv c).congr (seen x) (seen y) (seen z);
+}

@@ -16,7 +16,7 @@ use std::alloc::AllocError;
 use std::fmt;
 
 /// A value: one variant for each kind.
-#[derive(Drop, PartialEq)]
+#[derive(Drop)]
 #[cycle(bson)]
 pub enum Bson {
     /// The 8 bytes of the number, as they stand in a document.
@@ -199,6 +199,34 @@ impl Bson {
             Bson::Decimal128(bytes) => Lent::Leaf(RawBson::Decimal128(same_bytes(bytes))),
             Bson::MinKey => Lent::Leaf(RawBson::MinKey),
             Bson::MaxKey => Lent::Leaf(RawBson::MaxKey),
+        }
+    }
+}
+
+impl PartialEq for Bson {
+    ghost use Rattle.std.specs.Cmp.{partial_equiv_from_equiv};
+    ghost use Rattle.bson_doc.specs.Bson.{value_of};
+    ghost use Rattle.bson_doc.specs.Codes.{coded_value};
+    ghost use Rattle.bson_doc.specs.Same.{same_seen, same_seen_equiv};
+
+    ghost eq = { same_seen coded_value value_of };
+
+    ghost laws = { partial_equiv_from_equiv (same_seen_equiv coded_value value_of) };
+
+    #[cycle(same)]
+    fn eq(&self, other: &Bson) -> bool {
+        match (self.lend(), other.lend()) {
+            (Lent::Document(a), Lent::Document(b)) => a.eq(b),
+            (Lent::Array(a), Lent::Array(b)) => a.eq(b),
+            (
+                Lent::CodeWithScope { code, scope },
+                Lent::CodeWithScope {
+                    code: other_code,
+                    scope: other_scope,
+                },
+            ) => code == other_code && scope.eq(other_scope),
+            (Lent::Leaf(a), Lent::Leaf(b)) => a == b,
+            _ => false,
         }
     }
 }

@@ -12,6 +12,7 @@ use bson_raw::RawBson;
 
 /// An owned value, lent: the container that it holds, or else the value as one that is borrowed
 /// from bytes.
+#[derive(Clone, Copy)]
 pub(crate) enum Lent<'a> {
     Document(&'a Document),
     Array(&'a Array),
