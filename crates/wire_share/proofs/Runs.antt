@@ -2,8 +2,10 @@
 use Rattle.std.proofs.Common.{◌≡◌, ℕ, List, [], ◌∷◌, ◌++◌, Option, Some, None, Result, Ok, Err, IfOk, OnErr, refl, subst}
 use mathlib.Core.Logic.{∥∥₁_elim, ∥∥₁_prop}
 use Rattle.wire_share.specs.declared.server.Server.{Server}
-use Rattle.wire_share.specs.Cores.{CoreAct, CoreDoes, CoreRun, CoreSeen, new_core}
+use Rattle.wire_share.specs.Cores.{CoreAct, CoreDoes, CoreRun, CoreSeen, core_seen, new_core}
 use Rattle.wire_share.specs.Core_laws.{IsLawful, LawfulRun}
+use Rattle.wire_share.specs.Running.{IsRun}
+use Rattle.wire_share.specs.declared.shared_core.Core.{Core}
 
 pub one_act : (act : CoreAct) (old new : CoreSeen) → CoreDoes act old new → (acts : List CoreAct) × CoreRun old acts new
 one_act act old new does = (act ∷ [], (new, does, refl))
@@ -39,3 +41,7 @@ pub acts_run : (act : CoreAct) (row : Option Server) (old new : CoreSeen) → ((
     → (acts : List CoreAct) × CoreRun old acts new
 acts_run act None old new does none = ([], none refl)
 acts_run act (Some y) old new does none = one_act act old new (does y refl)
+
+-- a run of a core, by the acts of its state
+pub as_run : (old new : Core) → ((acts : List CoreAct) × CoreRun (core_seen old.state) acts (core_seen new.state)) → IsRun old new
+as_run old new run = record { acts = run.0; run = run.1 }

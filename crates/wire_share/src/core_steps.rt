@@ -14,6 +14,7 @@ ghost use Rattle.wire_share.specs.Core_laws.{IsLawful};
 ghost use Rattle.wire_share.specs.Cores.{ClosesDown, CoreDoes, Finishes, LosesUp, OpensDown};
 ghost use Rattle.wire_share.specs.Cores.{OpensUp, Shares, core_seen, new_core};
 ghost use Rattle.wire_share.specs.Refusing.{GiveFails, PassFails};
+ghost use Rattle.wire_share.specs.Running.{IsRun};
 ghost use Rattle.wire_share.specs.declared.client.Client.{Client};
 ghost use Rattle.wire_share.specs.declared.server.Server.{Server};
 
@@ -49,6 +50,7 @@ impl Core {
     ///
     /// Returns `AllocError` if memory or the numbers run out. Nothing changes then.
     pub fn accept(&mut self) -> Result<u64, AllocError>
+        ensures run { IsRun self.old self.new }
         ensures opened { IfOk result (λ d. CoreDoes (OpensDown d)
             (core_seen self.old.state) (core_seen self.new.state)) }
         ensures unchanged { OnErr result (core_seen self.new.state ≡ core_seen self.old.state) }
@@ -63,6 +65,7 @@ impl Core {
     /// Returns `AllocError` if memory or the numbers run out, or if the client that is to keep it
     /// isn't there or keeps another one. Nothing changes then.
     pub fn open(&mut self, used: Use) -> Result<u64, AllocError>
+        ensures run { IsRun self.old self.new }
         ensures opened { IfOk result (λ u. CoreDoes (OpensUp u used)
             (core_seen self.old.state) (core_seen self.new.state)) }
         ensures unchanged { OnErr result (core_seen self.new.state ≡ core_seen self.old.state) }
@@ -77,6 +80,7 @@ impl Core {
     /// Returns `Elsewhere` if it may not, `Refused` if none was passed on, and `OutOfMemory` if it
     /// was and memory ran out.
     pub fn pass(&mut self, number: u64, upstream: u64) -> Result<(), PassFault>
+        ensures run { IsRun self.old self.new }
         ensures passed { OnOk result ((m : Message) × (payload : Payload) × (call : CallNo)
             × (made : List LogEntry)
             × CoreDoes (Shares (Passes number upstream m payload call made))
@@ -94,6 +98,7 @@ impl Core {
     /// Returns `NotAwaited` if it doesn't, or one of both isn't there, `Closed` if the client is,
     /// and `OutOfMemory` if memory runs out. What the reply tells may be noted then.
     pub fn give(&mut self, upstream: u64, number: u64) -> Result<(), GiveRefusal>
+        ensures run { IsRun self.old self.new }
         ensures given { OnOk result ((m answer : Message) × (reply : ReadyReply)
             × (made : List LogEntry)
             × CoreDoes (Shares (Gives number upstream m reply answer made))
@@ -111,6 +116,7 @@ impl Core {
     ///
     /// Returns `OutOfMemory` if memory runs out. Nothing is taken then.
     pub fn take(&mut self, number: u64, piece: &[u8]) -> Result<usize, ReadRefusal>
+        ensures run { IsRun self.old self.new }
         ensures within { IfOk result (λ n. n ≤ length piece.now) }
         ensures taken { (x : Client) → (core_seen self.old.state).downs number ≡ Some x
             → IsReady x.downstream.conn
@@ -125,7 +131,8 @@ impl Core {
     /// Drops the first `n` of the bytes that are to be sent to this client, which were sent, if there
     /// are as many.
     pub fn sent(&mut self, number: u64, n: usize)
-        ensures { (x : Client) → (core_seen self.old.state).downs number ≡ Some x
+        ensures run { IsRun self.old self.new }
+        ensures sent { (x : Client) → (core_seen self.old.state).downs number ≡ Some x
             → n ≤ length x.downstream.conn.output
             → CoreDoes (Shares (MovesDown number (Sends (take n x.downstream.conn.output))))
             (core_seen self.old.state) (core_seen self.new.state) }
@@ -135,7 +142,8 @@ impl Core {
 
     /// Tells this client that no more bytes come, if it is there.
     pub fn end(&mut self, number: u64)
-        ensures { (x : Client) → (core_seen self.old.state).downs number ≡ Some x
+        ensures run { IsRun self.old self.new }
+        ensures ended { (x : Client) → (core_seen self.old.state).downs number ≡ Some x
             → CoreDoes (Shares (MovesDown number Ends))
             (core_seen self.old.state) (core_seen self.new.state) }
     {
@@ -149,7 +157,8 @@ impl Core {
     ///
     /// Returns `OutOfMemory` if memory runs out. Nothing is taken then.
     pub fn take_up(&mut self, upstream: u64, piece: &[u8]) -> Result<usize, ReadRefusal>
-        ensures { (y : Server) → (core_seen self.old.state).ups upstream ≡ Some y
+        ensures run { IsRun self.old self.new }
+        ensures taken { (y : Server) → (core_seen self.old.state).ups upstream ≡ Some y
             → MayTake y.upstream.client
             → IfOk result (λ n. CoreDoes (Shares (TakesUp upstream (take n piece.now)))
             (core_seen self.old.state) (core_seen self.new.state)) }
@@ -160,7 +169,8 @@ impl Core {
     /// Drops the first `n` of the bytes that are to be sent over this connection, which were sent, if
     /// there are as many.
     pub fn sent_up(&mut self, upstream: u64, n: usize)
-        ensures { (y : Server) → (core_seen self.old.state).ups upstream ≡ Some y
+        ensures run { IsRun self.old self.new }
+        ensures sent { (y : Server) → (core_seen self.old.state).ups upstream ≡ Some y
             → n ≤ length y.upstream.client.requests.output
             → CoreDoes (Shares (SendsUp upstream (take n y.upstream.client.requests.output)))
             (core_seen self.old.state) (core_seen self.new.state) }
@@ -170,7 +180,8 @@ impl Core {
 
     /// Tells this connection that no more bytes come, if it is there.
     pub fn end_up(&mut self, upstream: u64)
-        ensures { (y : Server) → (core_seen self.old.state).ups upstream ≡ Some y
+        ensures run { IsRun self.old self.new }
+        ensures ended { (y : Server) → (core_seen self.old.state).ups upstream ≡ Some y
             → CoreDoes (Shares (EndsUp upstream))
             (core_seen self.old.state) (core_seen self.new.state) }
     {
@@ -179,7 +190,8 @@ impl Core {
 
     /// Lets go of the reply that this connection has ready, if it has one.
     pub fn release(&mut self, upstream: u64)
-        ensures { (y : Server) (reply : ReadyReply) (m : Message)
+        ensures run { IsRun self.old self.new }
+        ensures released { (y : Server) (reply : ReadyReply) (m : Message)
             → (core_seen self.old.state).ups upstream ≡ Some y
             → y.upstream.client.reply ≡ Some reply → SpellsMsg m y.upstream.client.held
             → CoreDoes (Shares (LetsGo upstream reply m))
@@ -190,7 +202,8 @@ impl Core {
 
     /// Closes a client.
     pub fn close(&mut self, number: u64)
-        ensures { CoreDoes (ClosesDown number)
+        ensures run { IsRun self.old self.new }
+        ensures closed { CoreDoes (ClosesDown number)
             (core_seen self.old.state) (core_seen self.new.state) }
     {
         self.state.close(number);
@@ -198,6 +211,7 @@ impl Core {
 
     /// Notes that a connection to the server is used no more, if it is there.
     pub fn finish(&mut self, upstream: u64)
+        ensures run { IsRun self.old self.new }
         ensures finished { (y : Server) → (core_seen self.old.state).ups upstream ≡ Some y
             → CoreDoes (Finishes upstream) (core_seen self.old.state) (core_seen self.new.state) }
         ensures none { (core_seen self.old.state).ups upstream ≡ None
@@ -208,6 +222,7 @@ impl Core {
 
     /// Loses a connection to the server, if it is there, with the clients that await a reply of it.
     pub fn lose(&mut self, upstream: u64)
+        ensures run { IsRun self.old self.new }
         ensures lost { (y : Server) → (core_seen self.old.state).ups upstream ≡ Some y
             → CoreDoes (LosesUp upstream) (core_seen self.old.state) (core_seen self.new.state) }
         ensures none { (core_seen self.old.state).ups upstream ≡ None

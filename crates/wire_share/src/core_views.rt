@@ -1,12 +1,15 @@
 //! What is seen of a core, and over which connection a request of it goes.
 
 ghost use Rattle.std.specs.Prelude.{◌≡◌, IfSome, IsNone, None, Some, false, true};
+ghost use Rattle.std.specs.List.{list_any};
+ghost use Rattle.indexmap.specs.IndexMap.{values};
 ghost use Rattle.wire_msg.specs.{Message};
 ghost use Rattle.wire_stream.specs.{Rose};
 ghost use Rattle.wire_share.specs.Cores.{IsPlace, IsPlaced, core_seen};
 ghost use Rattle.wire_share.specs.Placing.{IsDone, is_of, is_transaction, owner_of};
 ghost use Rattle.wire_share.specs.Refusing.{AsksFor};
 ghost use Rattle.wire_share.specs.Routing.{found};
+ghost use Rattle.wire_share.specs.Running.{has_output, output_over, output_to, seen};
 ghost use Rattle.wire_share.specs.declared.client.Client.{Client};
 ghost use Rattle.wire_share.specs.declared.server.Server.{Server};
 
@@ -36,8 +39,7 @@ impl Core {
 
     /// Lends the bytes that are to be sent to this client: none if it isn't there.
     pub fn output(&self, number: u64) -> &[u8]
-        ensures { (x : Client) → (core_seen self.now.state).downs number ≡ Some x
-            → result.now ≡ x.downstream.conn.output }
+        ensures { result.now ≡ output_to ((seen self.now).downs number) }
     {
         match self.state.downs.get(&number) {
             Some(client) => client.downstream.output(),
@@ -47,8 +49,7 @@ impl Core {
 
     /// Lends the bytes that are to be sent over this connection: none if it isn't there.
     pub fn server_output(&self, upstream: u64) -> &[u8]
-        ensures { (y : Server) → (core_seen self.now.state).ups upstream ≡ Some y
-            → result.now ≡ y.upstream.client.requests.output }
+        ensures { result.now ≡ output_over ((seen self.now).ups upstream) }
     {
         match self.state.ups.get(&upstream) {
             Some(server) => server.upstream.output(),
@@ -57,11 +58,14 @@ impl Core {
     }
 
     /// Returns true if bytes are to be sent over a connection to the server.
-    pub fn has_output(&self) -> bool {
-        self.state
-            .ups
-            .values()
-            .any(|server| !server.output().is_empty())
+    pub fn has_output(&self) -> bool
+        ensures { result ≡ list_any has_output (values self.now.state.ups) }
+    {
+        self.state.ups.values().any(
+            |server: &Server| -> bool
+                ensures { result ≡ has_output server.now }
+            { !server.output().is_empty() },
+        )
     }
 
     /// Returns the number that the next client has.

@@ -1,6 +1,9 @@
 use Rattle.wire_share.specs.Cores.{OpensDown, core_seen}
-use Rattle.wire_share.proofs.Runs.{opens_run, reaches_on}
+use Rattle.wire_share.proofs.Runs.{as_run, opens_run, reaches_on}
 use Rattle.wire_share.proofs.shared_core.Core.accept.Goals as goal
 
 pub invariant_of-self : goal.invariant_of-self
 invariant_of-self c = record { reached = reaches_on (core_seen c.args.self.now.state) (core_seen c.open_down.new.self) c.args.self.now.reached (opens_run OpensDown c.open_down.result _ _ c.open_down.ensures.opened c.open_down.ensures.unchanged) }
+
+pub returns-clause-run : goal.returns-clause-run
+returns-clause-run c = as_run _ _ (opens_run OpensDown c.open_down.result _ _ c.open_down.ensures.opened c.open_down.ensures.unchanged)
