@@ -22,17 +22,30 @@ class Numbers(NamedTuple):
     @staticmethod
     def of(crate, promises):
         """Returns the numbers of a crate."""
-        functions = [item for path in crate.folder.glob("src/**/*.rt") for item in items_of(path) if item.kind == "fn"]
-        rest = [item for item in functions if not set(item.named_clauses("ensures")) - {"ok"}]
-        # What isn't its own and a trait's.
-        by_trait = sum(1 for item in rest if all(promises.of(item)))
+        functions = functions_of(crate)
+        rest = [item for item in functions if not has_clause(item)]
+        without = without_clause(crate, promises)
         lines = [lines_in(crate.folder / name) for name in ("src", "specs", "proofs")]
-        return Numbers(len(functions), len(functions) - len(rest), by_trait, len(rest) - by_trait, *lines, unsafe_blocks(crate))
+        return Numbers(len(functions), len(functions) - len(rest), len(rest) - len(without), len(without), *lines, unsafe_blocks(crate))
 
     def columns(self):
         """Returns the numbers under the heads of their columns."""
         names = ("functions", "with a clause", "with a trait's", "with none", "lines of src", "of specs", "of proofs", "unsafe blocks")
         return dict(zip(names, self))
+
+
+def functions_of(crate):
+    return [item for path in sorted(crate.folder.glob("src/**/*.rt")) for item in items_of(path) if item.kind == "fn"]
+
+
+def has_clause(function):
+    """Returns true if a function has an `ensures`, of which `ok` alone isn't one."""
+    return bool(set(function.named_clauses("ensures")) - {"ok"})
+
+
+def without_clause(crate, promises):
+    """Returns the functions of a crate that have no clause, and that keep none of a trait's."""
+    return [item for item in functions_of(crate) if not has_clause(item) and not all(promises.of(item))]
 
 
 def lines_in(folder):

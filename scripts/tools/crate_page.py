@@ -5,6 +5,7 @@ from typing import NamedTuple
 
 from crate_items import CrateItems, head_of_file, sentence_of
 from crate_list import used_by
+from crate_numbers import without_clause
 from entries import Entries
 from items import ROOT
 from wrong_bodies import WrongBodies
@@ -16,6 +17,23 @@ INNER = {
     False: ("Between its modules", "What is `pub` in a module that other crates can't name."),
     True: ("Items", "A program gives nothing to other crates. These are what its modules share, and its functions that have a clause."),
 }
+
+
+# What a function touches, by the words of its head.
+TOUCHED = {
+    "sockets": r"\b(Net|Tcp\w+|Registry|Poll|Events?|Acceptor|Socket\w*|Link|HeldLink)\b",
+    "the clock": r"\bClock\b",
+    "files": r"\bFiles\b",
+    "standard input": r"\b(Input|Stdin)\b",
+    "output": r"(?<!fmt::)\b(Write|Print|Eprint|Sink)\b",
+    "the command line": r"\b(HostRuntime|Env)\b",
+    "a text that is shown": r"\bFormatter\b",
+}
+
+
+def touched(function):
+    """Returns what a function touches besides its arguments, by the words of its head, or that it touches nothing."""
+    return [what for what, words in TOUCHED.items() if re.search(words, function.text)] or ["nothing"]
 
 
 def linked(path, text):
@@ -62,7 +80,7 @@ class CratePage:
         self.items = CrateItems(crate)
 
     def text(self):
-        parts = [self.head(), self.counts(), *self.all_items(), self.words(), self.wants(), self.wrong_bodies()]
+        parts = [self.head(), self.counts(), *self.all_items(), self.without(), self.words(), self.wants(), self.wrong_bodies()]
         return "\n".join(line for part in parts for line in part)
 
     def head(self):
@@ -109,6 +127,19 @@ class CratePage:
                 page = "" if crate == self.crate.name else f"{crate}.md"
                 found[crate, file, word] = f"[`{word}`]({page}#{file}.{word})"
         return [f"Words: {', '.join(found.values())}", ""] if found else []
+
+    def without(self):
+        """Returns the functions without a clause, with what they touch by their heads."""
+        functions = without_clause(self.crate, self.known.promises)
+        if not functions:
+            return []
+        lines = ["## Functions without a clause", "", "Of these no more is proved than that they are safe. What each touches is read off its head.", "",
+                 "| function | what it does | touches |", "|---|---|---|"]
+        for function in functions:
+            about = "\n".join(function.doc).partition("\n#")[0]
+            does = sentence_of(about) if about else f"What `{function.trait}` says." if function.trait else ""
+            lines.append(f"| {linked(function.path.relative_to(ROOT), f'`{function.called}`')} | {does} | {', '.join(touched(function))} |")
+        return [*lines, ""]
 
     def words(self):
         """Returns the definitions of this crate that contracts cite."""
