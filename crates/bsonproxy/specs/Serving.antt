@@ -59,3 +59,15 @@ serve_status (Err (faults.Proxy fault)) = proxy_status fault
 -- the file of the script that the options name
 abbrev pub script_file : Options → Option Text
 script_file options = option_map (λ file. file.now) options.script
+
+-- ---- what is told
+
+-- the file of which a fault is: of the script, of the port or of records
+abbrev pub file_at_fault : ServeFault → Options → Option Text
+file_at_fault (faults.Script fault) options = script_file options
+file_at_fault (faults.ScriptFile error) options = script_file options
+file_at_fault (faults.Proxy (proxies.PortFile error)) options =
+    option_map (λ file. file.now) options.port_file
+file_at_fault (faults.Proxy (proxies.RecordFile error)) options =
+    option_map (λ file. file.now) options.record
+file_at_fault (faults.Proxy fault) options = None

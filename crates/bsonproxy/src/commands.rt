@@ -1,12 +1,13 @@
 //! Runs what the command line asks for, and returns the exit status.
-ghost use Rattle.std.specs.Prelude.{◌≡◌, Err};
+ghost use Rattle.std.specs.Prelude.{◌≡◌, Err, option_map};
 ghost use Rattle.bsonproxy.specs.ExitStatus.{IsStatusFor, IsStatusOfReplay, IsStatusOfServe};
-ghost use Rattle.bsonproxy.specs.Serving.{MayEnd, script_file, serve_status as status_of_serve};
+ghost use Rattle.bsonproxy.specs.Serving.{MayEnd, file_at_fault, script_file};
+ghost use Rattle.bsonproxy.specs.Serving.{serve_status as status_of_serve};
 
 use crate::choice::Choice;
 use crate::fault::ServeFault;
 use crate::script::read_script;
-use command_words::{Because, InputName, Noted, USAGE, status_of_error};
+use command_words::{InputName, Noted, USAGE, status_of_error};
 use proxy::{Options, ProxyFault};
 use replay::{Outcome, ReplayFault, ReplayOptions};
 use std::io;
@@ -80,38 +81,32 @@ fn serve_status<R: Files + Input + Net + Clock + Print + Eprint + AllocGlobal>(
     let Err(fault) = run_proxy(rt, options, &mut writer) else {
         return 0;
     };
-    let _ = tell_proxy(rt, &fault, options, writer.because());
+    let because = writer.because();
+    // If standard error takes no line, there is only the status.
+    let _ = if because.is_known() {
+        eprintln!(rt; "bsonproxy: could not write standard output{because}")
+    } else if let Some(file) = file_at_fault(&fault, options) {
+        eprintln!(rt; "bsonproxy: {file:?}: {fault}")
+    } else {
+        let Options {
+            listen,
+            upstream,
+            ..
+        } = options;
+        eprintln!(rt; "bsonproxy: from {listen:?} to {upstream:?}: {fault}")
+    };
     fault_status(&fault)
 }
 
-/// Says on standard error why a proxy stopped early: writing failed for this reason, or else by its
-/// fault.
-fn tell_proxy(
-    rt: &impl Eprint,
-    fault: &ServeFault,
-    options: Options<'_>,
-    unwritten: Because,
-) -> io::Result<()> {
-    if unwritten.is_known() {
-        return eprintln!(rt; "bsonproxy: could not write standard output{unwritten}");
-    }
-    let Options {
-        listen,
-        upstream,
-        script,
-        port_file,
-        record,
-        ..
-    } = options;
-    let file = match fault {
-        ServeFault::Script(_) | ServeFault::ScriptFile(_) => script,
-        ServeFault::Proxy(ProxyFault::PortFile(_)) => port_file,
-        ServeFault::Proxy(ProxyFault::RecordFile(_)) => record,
+/// Returns the file of which a fault of a proxy is, if it is of one.
+fn file_at_fault<'a>(fault: &ServeFault, options: Options<'a>) -> Option<&'a str>
+    ensures { option_map (λ file. file.now) result ≡ file_at_fault fault.now options.entry }
+{
+    match fault {
+        ServeFault::Script(_) | ServeFault::ScriptFile(_) => options.script,
+        ServeFault::Proxy(ProxyFault::PortFile(_)) => options.port_file,
+        ServeFault::Proxy(ProxyFault::RecordFile(_)) => options.record,
         ServeFault::Proxy(_) => None,
-    };
-    match file {
-        Some(file) => eprintln!(rt; "bsonproxy: {file:?}: {fault}"),
-        None => eprintln!(rt; "bsonproxy: from {listen:?} to {upstream:?}: {fault}"),
     }
 }
 
@@ -124,35 +119,21 @@ fn replay_status<R: Files + Input + Net + Clock + Print + Eprint + AllocGlobal>(
     ensures { IsStatusOfReplay result }
 {
     let mut writer = Noted::new(io::writer(rt));
-    match replay::run(rt, rt.alloc(), options, &mut writer) {
-        Ok(Outcome::Same) => 0,
-        Ok(Outcome::Different | Outcome::Fault) => 1,
-        Err(fault) => {
-            let _ = tell_replay(rt, &fault, options, writer.because());
-            status_of_error(fault.error())
-        }
-    }
-}
-
-/// Says on standard error why a replay stopped early: writing failed for this reason, or else by its
-/// fault.
-fn tell_replay(
-    rt: &impl Eprint,
-    fault: &ReplayFault,
-    options: ReplayOptions<'_>,
-    unwritten: Because,
-) -> io::Result<()> {
-    if unwritten.is_known() {
-        return eprintln!(rt; "bsonproxy: could not write standard output{unwritten}");
-    }
+    let fault = match replay::run(rt, rt.alloc(), options, &mut writer) {
+        Ok(Outcome::Same) => return 0,
+        Ok(Outcome::Different | Outcome::Fault) => return 1,
+        Err(fault) => fault,
+    };
+    let because = writer.because();
     let ReplayOptions { file, address, .. } = options;
-    match fault {
-        ReplayFault::Records(error) => {
-            let input = InputName::of(file);
-            eprintln!(rt; "bsonproxy: could not read {input}: {error}")
-        }
-        ReplayFault::Address(_) | ReplayFault::Io(_) => {
-            eprintln!(rt; "bsonproxy: replay to {address:?}: {fault}")
-        }
-    }
+    // If standard error takes no line, there is only the status.
+    let _ = if because.is_known() {
+        eprintln!(rt; "bsonproxy: could not write standard output{because}")
+    } else if let ReplayFault::Records(error) = &fault {
+        let input = InputName::of(file);
+        eprintln!(rt; "bsonproxy: could not read {input}: {error}")
+    } else {
+        eprintln!(rt; "bsonproxy: replay to {address:?}: {fault}")
+    };
+    status_of_error(fault.error())
 }

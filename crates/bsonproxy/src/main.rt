@@ -22,7 +22,7 @@ mod fault;
 mod script;
 
 ghost use Rattle.std.specs.Prelude.{map};
-ghost use Rattle.bsonproxy.specs.ExitStatus.{IsStatusOf};
+ghost use Rattle.bsonproxy.specs.ExitStatus.{IsExitStatus, IsStatusOf};
 
 use choice::choose;
 use command_words::{Program, texts};
@@ -36,7 +36,9 @@ fn main(rt: HostRuntime) -> ExitCode {
 }
 
 /// Reads the words, runs what they ask for, and returns the exit status.
-fn status(rt: &HostRuntime) -> u8 {
+fn status(rt: &HostRuntime) -> u8
+    ensures { IsExitStatus result }
+{
     let words = match PROGRAM.read_words(rt) {
         Ok(words) => words,
         Err(status) => return status,

@@ -41,3 +41,9 @@ IsStatusOf words status =
     × IsStatusFor choice status)
     ⊎ ((k : ErrorKind) × (printed : Bool) × MayRefuse k (fault_of command_line words)
     × (status ≡ words_status k printed))
+
+-- the status of the program: that for the words of a command line, or one for words that can't be
+-- read, as one isn't text or memory ran out
+abbrev pub IsExitStatus : ℕ → Type 0
+IsExitStatus status =
+    ((words : List Text) × IsStatusOf words status) ⊎ (status ≡ 2) ⊎ (status ≡ 4)

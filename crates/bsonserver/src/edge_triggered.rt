@@ -4,8 +4,10 @@
 //! So in a turn that an event began, a read that didn't fill its buffer left nothing, unless the event
 //! told that the other side sends no more: that was told with the bytes before it, and isn't told again.
 
-ghost use Rattle.std.specs.Prelude.{◌≡◌, IfOk, None, Some};
-ghost use Rattle.bsonserver.specs.Turning.{IsNext};
+ghost use Rattle.std.specs.Prelude.{◌≡◌, IfOk, None, OnErr, Some, length};
+ghost use Rattle.std.specs.Io.{ReadsAtMost};
+ghost use Rattle.std.specs.Io.KnownBytes.{ReadConsumes};
+ghost use Rattle.bsonserver.specs.Turning.{IsNext, turn_of};
 
 use mio::event::Event;
 use std::alloc::{AllocError, Global};
@@ -21,7 +23,7 @@ pub struct Turns {
     /// none.
     told: Option<u64>,
     /// That number, or none if all that came has to be read in the turn.
-    current: Rc<Cell<Option<u64>>>,
+    pub current: Rc<Cell<Option<u64>>>,
 }
 
 impl Turns {
@@ -50,17 +52,14 @@ impl Turns {
         };
     }
 
-    /// Begins a turn that goes on where one before it stopped.
-    pub fn resume(&self) {
-        self.current.set(None);
-    }
-
-    /// Begins a turn by one of the events that the system told last.
-    pub fn begin(&self, event: &Event) {
+    /// Returns the number for a turn that one of the events that the system told last begins.
+    pub fn number_of(&self, event: &Event) -> Option<u64>
+        ensures { result ≡ turn_of self.now.told event.now }
+    {
         if event.is_read_closed() || event.is_error() {
-            self.current.set(None);
+            None
         } else {
-            self.current.set(self.told);
+            self.told
         }
     }
 
@@ -92,7 +91,15 @@ pub struct EdgeTriggered<S> {
 }
 
 impl<S: Read> Read for EdgeTriggered<S> {
-    fn read(&mut self, buffer: &mut [u8]) -> io::Result<usize> {
+    ghost remaining = { λ stream. S.remaining stream.stream };
+
+    fn read(&mut self, buffer: &mut [u8]) -> io::Result<usize>
+        ensures bound { ReadsAtMost result buffer.new }
+        ensures bytes { ReadConsumes (S.remaining self.old.stream) (S.remaining self.new.stream)
+            result buffer.new }
+        ensures filled { IfOk result (λ n. n ≡ length buffer.new → self.new.emptied ≡ None) }
+        ensures failed { OnErr result (self.new.emptied ≡ self.old.emptied) }
+    {
         let turn = self.turn.get();
         if turn.is_some() && self.emptied == turn {
             return Err(io::Error::from(ErrorKind::WouldBlock));
@@ -108,6 +115,8 @@ impl<S: Read> Read for EdgeTriggered<S> {
 }
 
 impl<S: Write> Write for EdgeTriggered<S> {
+    ghost contents = { λ stream. S.contents stream.stream };
+
     fn write(&mut self, bytes: &[u8]) -> io::Result<usize> {
         self.stream.write(bytes)
     }

@@ -10,9 +10,9 @@ ghost use Rattle.bsonserver.specs.Turning.{IsNext, StayDue};
 ghost use Rattle.wire_serve.specs.declared.turned.Leave.{Leave};
 
 use crate::edge_triggered::{EdgeTriggered, Turns};
+use mio::Events;
 use mio::event::Event;
 use mio::net::TcpStream;
-use mio::{Events, Registry};
 use server_core::{Stop, settle};
 use sockets::{Acceptor, Delays, Due};
 use std::alloc::{AllocError, Global};
@@ -53,7 +53,9 @@ impl Pending {
     }
 
     /// Has the connections take another turn whose replies were held for long enough.
-    fn release(&mut self, clock: &impl Clock) -> Result<(), Stop> {
+    fn release(&mut self, clock: &impl Clock) -> Result<(), Stop>
+        ensures { StayDue self.old.again.keys.items self.new.again.keys.items }
+    {
         for _ in 0..ROOM {
             match self.delays.take_due(clock)? {
                 Some(key) => self.again.push(key)?,
@@ -80,9 +82,11 @@ impl EventLoop {
         EventLoop { acceptor, pending }
     }
 
-    /// Returns what registers sockets, so that their events are waited for.
-    pub fn registry(&self) -> &Registry {
-        self.acceptor.registry()
+    /// Returns what accepts connections, and waits for the events of sockets.
+    pub fn acceptor(&self) -> &Acceptor
+        ensures { result.now ≡ self.now.acceptor }
+    {
+        &self.acceptor
     }
 
     /// Returns true if a connection may wait at the listener.
@@ -129,7 +133,8 @@ impl EventLoop {
 
     /// Begins a turn by one of the events that the system told last.
     pub fn begin_turn(&self, event: &Event) {
-        self.pending.turns.begin(event);
+        let turns = &self.pending.turns;
+        turns.current.set(turns.number_of(event));
     }
 
     /// Returns how many connections are to take another turn.
@@ -145,7 +150,7 @@ impl EventLoop {
             ≡ option_to_list result ++ self.new.pending.again.keys.items }
     {
         let key = self.pending.again.pop()?;
-        self.pending.turns.resume();
+        self.pending.turns.current.set(None);
         Some(key)
     }
 
@@ -208,7 +213,9 @@ impl EventLoop {
         &mut self,
         rt: &R,
         events: &mut Events<Global>,
-    ) -> Result<(), Stop> {
+    ) -> Result<(), Stop>
+        ensures { StayDue self.old.pending.again.keys.items self.new.pending.again.keys.items }
+    {
         self.tell_backlog(rt);
         let held = self.pending.delays.least(rt)?;
         let has_more = !self.pending.again.is_empty();

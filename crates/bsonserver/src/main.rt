@@ -29,7 +29,8 @@ mod scripts;
 mod sources;
 
 ghost use Rattle.std.specs.Prelude.{◌≡◌, map};
-ghost use Rattle.bsonserver.specs.ExitStatus.{IsStatusFor, IsStatusOf, exit_status};
+ghost use Rattle.bsonserver.specs.ExitStatus.{IsExitStatus, IsStatusFor, IsStatusOf};
+ghost use Rattle.bsonserver.specs.ExitStatus.{exit_status};
 
 use choice::{Choice, choose};
 use command_words::{IN_OUT, MEMORY, Program, USAGE, texts};
@@ -48,7 +49,9 @@ fn main(rt: HostRuntime) -> ExitCode {
 }
 
 /// Reads the words, serves what they ask for, and returns the exit status.
-fn status(rt: &HostRuntime) -> u8 {
+fn status(rt: &HostRuntime) -> u8
+    ensures { IsExitStatus result }
+{
     let words = match PROGRAM.read_words(rt) {
         Ok(words) => words,
         Err(status) => return status,
@@ -85,7 +88,9 @@ fn run_choice(rt: &HostRuntime, choice: Choice<'_>) -> u8
 fn tell(rt: &impl Eprint, end: &ServingEnd, choice: Choice<'_>) -> u8
     ensures { result ≡ exit_status end.now }
 {
+    let address = choice.address;
     let script = choice.script.unwrap_or("");
+    let file = choice.port_file.unwrap_or("");
     // If standard error takes no line, there is only the status.
     let _ = match end {
         ServingEnd::Served(_) => Ok(()),
@@ -95,25 +100,18 @@ fn tell(rt: &impl Eprint, end: &ServingEnd, choice: Choice<'_>) -> u8
         ServingEnd::ScriptFile(error) => {
             eprintln!(rt; "bsonserver: the script {script:?} can't be read: {error}")
         }
-        ServingEnd::Stopped(stop) => tell_stop(rt, stop, choice),
-    };
-    status_of(end)
-}
-
-/// Says on standard error why the server stopped.
-fn tell_stop(rt: &impl Eprint, stop: &Stop, choice: Choice<'_>) -> io::Result<()> {
-    let address = choice.address;
-    let file = choice.port_file.unwrap_or("");
-    match stop {
-        Stop::InOut(error) => eprintln!(rt; "bsonserver: could not serve at {address:?}: {error}"),
-        Stop::Output(error) => {
+        ServingEnd::Stopped(Stop::InOut(error)) => {
+            eprintln!(rt; "bsonserver: could not serve at {address:?}: {error}")
+        }
+        ServingEnd::Stopped(Stop::Output(error)) => {
             eprintln!(rt; "bsonserver: could not write standard output: {error}")
         }
-        Stop::PortFile(error) => {
+        ServingEnd::Stopped(Stop::PortFile(error)) => {
             eprintln!(rt; "bsonserver: the file of the port {file:?} can't be written: {error}")
         }
-        Stop::OutOfMemory => eprintln!(rt; "bsonserver: out of memory"),
-    }
+        ServingEnd::Stopped(Stop::OutOfMemory) => eprintln!(rt; "bsonserver: out of memory"),
+    };
+    status_of(end)
 }
 
 /// Returns the exit status of an end.

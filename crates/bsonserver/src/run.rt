@@ -116,7 +116,7 @@ fn begin_at<R: Net + Files + Input, W: Write>(
     let events = Events::with_capacity(alloc, EVENTS)?;
     let pending = Pending::new(alloc)?;
     let acceptor = listen(rt, choice, out)?;
-    let stdin = watch_stdin(rt, choice.until_stdin_closes, acceptor.registry());
+    let stdin = watch_stdin(rt, choice.until_stdin_closes, &acceptor);
     Ok(Sources::new(events, EventLoop::new(acceptor, pending), stdin))
 }
 

@@ -53,7 +53,7 @@ impl<I: BufRead + Drop> Sources<I> {
             (W.contents out.old) (W.contents out.new)) }
     {
         serve_some(rt, &mut self.event_loop, serving, &mut self.events, out)?;
-        self.stdin.see(self.event_loop.registry(), &self.events);
+        self.stdin.see(self.event_loop.acceptor(), &self.events);
         Ok(())
     }
 }

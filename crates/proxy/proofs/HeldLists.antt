@@ -1,5 +1,5 @@
 -- The bytes that may be given and those that are held, in the list that has both.
-use Rattle.std.proofs.Common.{◌≡◌, ◌∙◌, ◌+◌, ◌-◌, ◌≤◌, ℕ, List, [], ◌++◌, ap, arith, drop, length, length-append, length-drop, length-take, refl, sym, take, take-append-drop}
+use Rattle.std.proofs.Common.{◌≡◌, ◌∙◌, ◌+◌, ◌-◌, ◌≤◌, ℕ, List, ◌++◌, ap, arith, drop, length, length-append, length-drop, sym, take}
 use Rattle.std.proofs.Math.Seq.{drop-append_seam, take-add, take-append_seam, take-length}
 use Rattle.std.proofs.lemmas.List.{drop-append-le, drop-drop, drop-take, length-take-le, take-append-le}
 

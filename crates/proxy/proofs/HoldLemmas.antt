@@ -1,5 +1,5 @@
 -- What comes of the acts of a link that holds messages.
-use Rattle.std.proofs.Common.{◌≡◌, ◌∙◌, ◌+◌, ◌≤◌, ℕ, List, [], ◌∷◌, ◌++◌, Option, append_assoc, append-nil, ap, arith, length, length-append, refl, subst, sym}
+use Rattle.std.proofs.Common.{◌≡◌, ◌∙◌, ◌+◌, ◌≤◌, ℕ, List, [], ◌∷◌, ◌++◌, Option, append_assoc, append-nil, ap, arith, length, length-append, subst, sym}
 use Rattle.std.specs.Io.KnownBytes.{Appends}
 use Rattle.std.proofs.KnownBytes.{Appends-nil, Appends-trans}
 use Rattle.proxy.specs.Holding.{Comes, Cuts, Flows, Frees, Gives, HeldView, HoldAct, HoldRun, Passes, Puts, Skips, came, gave, passed, settled}

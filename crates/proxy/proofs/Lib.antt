@@ -5,3 +5,6 @@ pub mod Pulling
 pub mod Putting
 pub mod Recorded
 pub mod Marked
+pub mod Drawn
+pub mod Showing
+pub mod Steered

@@ -1,5 +1,5 @@
 -- What it means that connecting to the server failed.
-use Rattle.std.specs.Prelude.{◌≡◌, ◌⊎◌, ℤ, pos, Option, Some}
+use Rattle.std.specs.Prelude.{◌≡◌, ◌⊎◌, ℤ, pos, Option, Some, ⊤}
 use Rattle.std.specs.declared.io.ErrorKind.{ErrorKind}
 use Rattle.sockets.specs.declared.failure.IoFailure.{IoFailure}
 use Rattle.proxy.specs.declared.proxy.Unreached.{Unreached}
@@ -21,3 +21,13 @@ abbrev pub IsUnreached : ErrorKind → Option ℤ → Unreached → Type 0
 IsUnreached kind code (unreached.NoneLeft failure) = LeavesNone code × IsKeptOf kind code failure
 IsUnreached kind code (unreached.Refused failure) =
     (LeavesNone code → ⊥) × IsKeptOf kind code failure
+
+-- the system has nothing left, so that it is tried again later
+abbrev pub IsNoneLeft : Unreached → Type 0
+IsNoneLeft (unreached.NoneLeft failure) = ⊤
+IsNoneLeft (unreached.Refused failure) = ⊥
+
+-- a connection is refused only where the system has something left
+abbrev pub WantsNoRoom : Unreached → Type 0
+WantsNoRoom (unreached.NoneLeft failure) = ⊤
+WantsNoRoom (unreached.Refused failure) = LeavesNone failure.code → ⊥

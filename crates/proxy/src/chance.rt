@@ -1,6 +1,7 @@
 //! Draws where connections are cut.
 
 ghost use Rattle.std.specs.Prelude.{◌≡◌, ◌≢◌};
+ghost use Rattle.proxy.specs.Drawing.{drawn_count, drawn_direction, words_of};
 
 use crate::direction::Direction;
 use rand_core::utils::NextWord;
@@ -29,7 +30,10 @@ impl Cut {
 
 /// Draws where the connection of this number is cut: on either way, behind a number of bytes below a
 /// power of two, which is drawn first, from 1 to 65,536.
-pub fn drawn_cut(seed: u64, number: u64) -> Cut {
+pub fn drawn_cut(seed: u64, number: u64) -> Cut
+    ensures direction { result.direction ≡ drawn_direction (words_of seed number) }
+    ensures count { result.count ≡ drawn_count (words_of seed number) }
+{
     let mut words = Pcg32::new(seed, number);
     let direction = if words.next_word() % 2 == 0 {
         Direction::There

@@ -1,7 +1,7 @@
 //! Which way messages go.
 
 ghost use Rattle.std.specs.Prelude.{◌≡◌};
-ghost use Rattle.proxy.specs.Told.{word_of};
+ghost use Rattle.proxy.specs.Told.{sign_of, word_of};
 
 /// Which way messages go.
 #[derive(Clone, Copy, Debug, PartialEq, Eq)]
@@ -14,7 +14,9 @@ pub enum Direction {
 
 impl Direction {
     /// Returns the sign that stands before a message.
-    pub fn sign(self) -> char {
+    pub fn sign(self) -> char
+        ensures { result ≡ sign_of self }
+    {
         match self {
             Direction::There => '>',
             Direction::Back => '<',

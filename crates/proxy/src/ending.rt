@@ -56,6 +56,10 @@ impl Ending {
 }
 
 impl fmt::Display for Ending {
+    ghost use Rattle.proxy.specs.Told.{ending_text};
+
+    ghost output = { ending_text };
+
     fn fmt<W: fmt::Write>(&self, f: &mut fmt::Formatter<W>) -> fmt::Result {
         match *self {
             Ending::Ended => f.write_str("ended"),

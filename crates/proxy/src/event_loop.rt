@@ -1,11 +1,16 @@
 //! What each proxy does until enough connections ended, or standard input: it waits for events and
 //! serves them.
 
+ghost use Rattle.std.specs.Prelude.{◌≡◌, ℕ, [], Bool, IfErr, IfSome, IsErr, IsOk, None, OnErr};
+ghost use Rattle.std.specs.Prelude.{OnOk, Option};
+ghost use Rattle.sockets.specs.declared.acceptor.Acceptor.{Acceptor};
+ghost use Rattle.proxy.specs.Faults.{IsOfServing};
+
 use crate::fault::ProxyFault;
 use crate::options::Options;
 use crate::sink::Sink;
-use mio::{Events, Registry};
-use sockets::{Stdin, watch_stdin};
+use mio::Events;
+use sockets::{Acceptor, Stdin, watch_stdin};
 use std::alloc::Global;
 use std::io;
 use std::io::{BufRead, Input, Write};
@@ -15,11 +20,19 @@ use std::time::Clock;
 
 /// A proxy that waits for events and serves them.
 pub trait EventLoop {
-    /// Returns true if as many connections of clients ended as wanted, and nothing is left to pass.
-    fn is_over(&self, wanted: u64) -> bool;
+    // Whether as many connections of clients ended as wanted, and nothing is left, if it is told.
+    ghost over: { Self → ℕ → Option Bool } = { λ _ _. None };
 
-    /// Returns what registers sockets, so that their events are waited for.
-    fn registry(&self) -> &Registry;
+    /// Returns true if as many connections of clients ended as wanted, and nothing is left to pass.
+    fn is_over(&self, wanted: u64) -> bool
+        ensures { IfSome (over self.now wanted) (λ told. result ≡ told) };
+
+    // What accepts its connections.
+    ghost accepts: { Self → Acceptor };
+
+    /// Returns what accepts connections, and waits for the events of sockets.
+    fn acceptor(&self) -> &Acceptor
+        ensures { result.now ≡ accepts self.now };
 
     /// Waits for events, passes what can be passed, and gives the messages of it to the sink. What
     /// is shown or recorded until now is written before it waits.
@@ -51,7 +64,7 @@ fn serve_until<P: EventLoop, R: Net + Files + Clock, I: BufRead + Drop, W: Write
             break;
         }
         proxy.serve_some(rt, events, sink, out)?;
-        stdin.see(proxy.registry(), events);
+        stdin.see(proxy.acceptor(), events);
     }
     out.flush()
 }
@@ -60,7 +73,12 @@ fn serve_until<P: EventLoop, R: Net + Files + Clock, I: BufRead + Drop, W: Write
 fn finish<R: Files + Clock>(
     sink: &mut Sink<'_, R>,
     served: io::Result<()>,
-) -> Result<(), ProxyFault> {
+) -> Result<(), ProxyFault>
+    ensures ok { OnOk result (IsOk served) }
+    ensures failed { OnErr served (IsErr result) }
+    ensures kind { IfErr result IsOfServing }
+    ensures none_waits { IfSome sink.new.recorder (λ r. r.waiting.bytes.items ≡ []) }
+{
     match served {
         Ok(()) => match sink.flush() {
             Ok(()) => Ok(()),
@@ -74,7 +92,7 @@ fn finish<R: Files + Clock>(
     }
 }
 
-/// Does the same as `serve`, with events and a sink that are lent.
+/// Does the same as `serve`, with events and a sink that are lent. No record waits then.
 pub(crate) fn serve_lent<P: EventLoop, R: Net + Files + Clock + Input, W: Write>(
     rt: &R,
     proxy: &mut P,
@@ -82,8 +100,11 @@ pub(crate) fn serve_lent<P: EventLoop, R: Net + Files + Clock + Input, W: Write>
     events: &mut Events<Global>,
     sink: &mut Sink<'_, R>,
     out: &mut W,
-) -> Result<(), ProxyFault> {
-    let mut stdin = watch_stdin(rt, options.until_stdin_closes, proxy.registry());
+) -> Result<(), ProxyFault>
+    ensures kind { IfErr result IsOfServing }
+    ensures none_waits { IfSome sink.new.recorder (λ r. r.waiting.bytes.items ≡ []) }
+{
+    let mut stdin = watch_stdin(rt, options.until_stdin_closes, proxy.acceptor());
     let wanted = options.connections;
     let served = serve_until(rt, proxy, wanted, &mut stdin, events, sink, out);
     finish(sink, served)
@@ -103,6 +124,8 @@ pub fn serve<P: EventLoop, R: Net + Files + Clock + Input, W: Write>(
     mut events: Events<Global>,
     mut sink: Sink<'_, R>,
     out: &mut W,
-) -> Result<(), ProxyFault> {
+) -> Result<(), ProxyFault>
+    ensures { IfErr result IsOfServing }
+{
     serve_lent(rt, proxy, options, &mut events, &mut sink, out)
 }

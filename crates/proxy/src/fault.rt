@@ -40,6 +40,10 @@ impl ProxyFault {
 }
 
 impl fmt::Display for ProxyFault {
+    ghost use Rattle.proxy.specs.Faults.{shown_fault};
+
+    ghost output = { shown_fault };
+
     fn fmt<W: fmt::Write>(&self, f: &mut fmt::Formatter<W>) -> fmt::Result {
         f.write_str(self.text())?;
         match self {
@@ -54,6 +58,10 @@ impl fmt::Display for ProxyFault {
 }
 
 impl fmt::Debug for ProxyFault {
+    ghost use Rattle.proxy.specs.Faults.{shown_fault};
+
+    ghost debug_output = { shown_fault };
+
     fn fmt<W: fmt::Write>(&self, f: &mut fmt::Formatter<W>) -> fmt::Result {
         fmt::Display::fmt(self, f)
     }
@@ -62,12 +70,21 @@ impl fmt::Debug for ProxyFault {
 impl std::error::Error for ProxyFault {}
 
 impl From<AllocError> for ProxyFault {
+    ghost use Rattle.proxy.specs.Faults.{TellsNoMemory};
+
+    ghost from_gives = { λ _ fault. TellsNoMemory fault };
+
     fn from(error: AllocError) -> ProxyFault {
         ProxyFault::Io(io::Error::from(error))
     }
 }
 
 impl From<io::Error> for ProxyFault {
+    ghost use Rattle.std.specs.Prelude.{◌≡◌};
+    ghost use Rattle.proxy.specs.declared.fault.ProxyFault.TheVariants.{Io};
+
+    ghost from_gives = { λ error fault. fault ≡ Io error };
+
     fn from(error: io::Error) -> ProxyFault {
         ProxyFault::Io(error)
     }

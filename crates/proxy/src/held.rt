@@ -2,7 +2,7 @@
 
 ghost use Rattle.std.specs.Prelude.{◌≡◌, ◌≢◌, ◌≤◌, ◌<◌, ◌+◌, ◌-◌, ◌++◌, ◌↔◌, [], ℕ, List, IfErr};
 ghost use Rattle.std.specs.Prelude.{IfOk, IfSome, IsSomeAnd, IsTrue, OnErr, OnOk, false, length};
-ghost use Rattle.std.specs.Prelude.{take, true};
+ghost use Rattle.std.specs.Prelude.{nat_lt, take, true};
 ghost use Rattle.std.specs.Io.KnownBytes.{Appends, Keeps};
 ghost use Rattle.wire_frames.specs.{frame_bytes};
 ghost use Rattle.wire_stream.specs.{bytes_moved};
@@ -367,7 +367,8 @@ impl<L: Link + Drop> Held<L> {
 
     /// Returns true if bytes that may be given weren't yet.
     pub(crate) fn owes(&self) -> bool
-        ensures { IsTrue result ↔ ((view_of self.now).owed ≢ []) }
+        ensures owed { IsTrue result ↔ ((view_of self.now).owed ≢ []) }
+        ensures exact { result ≡ nat_lt self.now.start self.now.may }
     {
         self.start < self.may
     }

@@ -2,14 +2,17 @@
 
 ghost use Rattle.std.specs.Prelude.{◌≡◌, ◌≢◌, ◌≤◌, ◌<◌, ◌↔◌, [], ℕ, List, IfErr, IfOk, IfSome};
 ghost use Rattle.std.specs.Prelude.{IsSomeAnd, IsTrue, None, OnErr, OnOk, Some, false, length};
-ghost use Rattle.std.specs.Prelude.{take};
+ghost use Rattle.std.specs.Prelude.{if◌then◌else◌, nat_lt, ◌==◌, take};
 ghost use Rattle.std.specs.Io.KnownBytes.{Appends, Keeps};
 ghost use Rattle.wire_frames.specs.{frame_bytes};
 ghost use Rattle.wire_stream.specs.{Rose, TellsEnd, TellsLater, bytes_moved};
 ghost use Rattle.proxy.specs.Holding.{Cuts, HoldMoves, Holds, Passes, Pulls, Puts, Skips, new_view};
 ghost use Rattle.proxy.specs.Holding.{shown, view_of};
+ghost use Rattle.proxy.specs.Steering.{IsSteered};
+ghost use Rattle.proxy.specs.Turning.{cut_at};
 
 use crate::held::Held;
+use crate::steer::Steer;
 use sockets::EndSending;
 use std::alloc::{AllocError, Global};
 use std::io::ErrorKind;
@@ -93,6 +96,20 @@ impl<L: Link + Drop> HeldLink<L> {
         self.held.skip();
     }
 
+    /// Does this with the message that is held.
+    pub(crate) fn steer(&mut self, steer: Steer)
+        ensures steered { (message : List ℕ) → Holds self.old.held message
+            → IsSteered L.received steer message (view_of self.old.held) (view_of self.new.held) }
+        ensures stays { steer ≡ Steer.Stay → self.new ≡ self.old }
+    {
+        match steer {
+            Steer::Stay => {}
+            Steer::Pass => self.pass(),
+            Steer::Cut(count) => self.cut(count),
+            Steer::Skip => self.skip(),
+        }
+    }
+
     /// Gives these bytes before the message that is held.
     ///
     /// # Errors
@@ -122,7 +139,8 @@ impl<L: Link + Drop> HeldLink<L> {
 
     /// Returns true if bytes that may be given weren't yet.
     pub fn owes(&self) -> bool
-        ensures { IsTrue result ↔ ((view_of self.now.held).owed ≢ []) }
+        ensures owed { IsTrue result ↔ ((view_of self.now.held).owed ≢ []) }
+        ensures exact { result ≡ nat_lt self.now.held.start self.now.held.may }
     {
         self.held.owes()
     }
@@ -131,6 +149,7 @@ impl<L: Link + Drop> HeldLink<L> {
     pub fn cut_at(&self) -> Option<u64>
         ensures cut { self.now.held.left ≡ 0 → result ≡ Some self.now.held.given }
         ensures uncut { 0 < self.now.held.left → result ≡ None }
+        ensures exact { result ≡ cut_at self.now }
     {
         if self.held.left == 0 {
             Some(self.held.given)
@@ -141,14 +160,16 @@ impl<L: Link + Drop> HeldLink<L> {
 
     /// Returns true if it told its end, so that it gives no more.
     pub fn has_told_end(&self) -> bool
-        ensures { IsTrue result ↔ (0 < self.now.ends) }
+        ensures told { IsTrue result ↔ (0 < self.now.ends) }
+        ensures exact { result ≡ nat_lt 0 self.now.ends }
     {
         self.ends > 0
     }
 
     /// Returns true if a call of it failed.
     pub fn has_failed(&self) -> bool
-        ensures { IsTrue result ↔ (0 < self.now.failures) }
+        ensures failed { IsTrue result ↔ (0 < self.now.failures) }
+        ensures exact { result ≡ nat_lt 0 self.now.failures }
     {
         self.failures > 0
     }

@@ -26,6 +26,7 @@ pub mod hold_laws;
 mod marks;
 mod message;
 mod options;
+mod outcome;
 mod pair;
 mod pairs;
 mod proxy;
@@ -34,6 +35,7 @@ mod recorder;
 mod serving;
 mod sink;
 mod socket;
+mod steer;
 mod watch;
 
 pub use chance::{Cut, drawn_cut};

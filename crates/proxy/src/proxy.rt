@@ -1,14 +1,15 @@
 //! Accepts connections, and passes their bytes to a server and back.
 
-ghost use Rattle.std.specs.Prelude.{◌≡◌, ◌↔◌, IsTrue};
+ghost use Rattle.std.specs.Prelude.{◌≡◌, ◌↔◌, IfErr, IsTrue, OnOk, nat_le};
 ghost use Rattle.std.specs.IoError.{error_kind, raw_os_error};
-ghost use Rattle.proxy.specs.Reaching.{IsUnreached, LeavesNone};
+ghost use Rattle.proxy.specs.Reaching.{IsNoneLeft, IsUnreached, LeavesNone, WantsNoRoom};
+ghost use Rattle.proxy.specs.Serving.{IsTakenOn};
 
 use crate::event_loop::EventLoop;
 use crate::pairs::{Pairs, ROOM};
 use crate::sink::Sink;
 use mio::net::TcpStream;
-use mio::{Events, Registry, Token};
+use mio::{Events, Token};
 use sockets::{ACCEPTS, Acceptor, IoFailure, LISTENER, STDIN};
 use std::alloc::Global;
 use std::io;
@@ -80,7 +81,9 @@ impl Proxy {
     }
 
     /// Registers a connection to the server under this token.
-    fn register(&self, far: TcpStream, token: usize) -> Result<TcpStream, Unreached> {
+    fn register(&self, far: TcpStream, token: usize) -> Result<TcpStream, Unreached>
+        ensures { IfErr result IsNoneLeft }
+    {
         let mut far = far;
         match self.acceptor.register(&mut far, token) {
             Ok(()) => Ok(far),
@@ -89,7 +92,9 @@ impl Proxy {
     }
 
     /// Connects to the server, and registers the connection under this token.
-    fn connect(&self, net: &impl Net, token: usize) -> Result<TcpStream, Unreached> {
+    fn connect(&self, net: &impl Net, token: usize) -> Result<TcpStream, Unreached>
+        ensures { IfErr result WantsNoRoom }
+    {
         match TcpStream::connect(net, self.upstream) {
             Ok(far) => self.register(far, token),
             Err(error) => Err(why_unreached(&error)),
@@ -105,7 +110,11 @@ impl Proxy {
         near: TcpStream,
         token: usize,
         out: &mut W,
-    ) -> io::Result<()> {
+    ) -> io::Result<()>
+        ensures taken { OnOk result (IsTakenOn near self.old.pairs.opened self.new.pairs.opened
+            self.old.pairs.ended self.new.pairs.ended self.new.acceptor) }
+        ensures upstream { self.new.upstream ≡ self.old.upstream }
+    {
         match self.connect(net, token) {
             Ok(far) => self.pairs.open(near, far, out),
             Err(Unreached::NoneLeft(failure)) => {
@@ -117,7 +126,9 @@ impl Proxy {
     }
 
     /// Accepts a connection and opens it, if one waits. One that can't be registered is taken back.
-    fn accept_one<W: Write>(&mut self, net: &impl Net, out: &mut W) -> io::Result<()> {
+    fn accept_one<W: Write>(&mut self, net: &impl Net, out: &mut W) -> io::Result<()>
+        ensures { self.new.upstream ≡ self.old.upstream }
+    {
         let token = self.pairs.next_key().saturating_mul(2);
         match self.acceptor.accept_under(self.pairs.len() < ROOM, token) {
             Some(near) => self.open(net, near, token | 1, out),
@@ -126,8 +137,10 @@ impl Proxy {
     }
 
     /// Accepts connections, until none waits, and no more than `ACCEPTS`.
-    fn accept_some<W: Write>(&mut self, net: &impl Net, out: &mut W) -> io::Result<()> {
-        for _ in 0..ACCEPTS {
+    fn accept_some<W: Write>(&mut self, net: &impl Net, out: &mut W) -> io::Result<()>
+        ensures { self.new.upstream ≡ self.old.upstream }
+    {
+        'accepts: for _ in 0..ACCEPTS {
             self.accept_one(net, out)?;
             if !self.acceptor.is_ready() {
                 break;
@@ -143,8 +156,11 @@ impl Proxy {
         events: &Events<Global>,
         sink: &mut Sink<'_, R>,
         out: &mut W,
-    ) -> io::Result<()> {
-        for event in events.iter() {
+    ) -> io::Result<()>
+        ensures opened { self.new.pairs.opened ≡ self.old.pairs.opened }
+        ensures upstream { self.new.upstream ≡ self.old.upstream }
+    {
+        'events: for event in events.iter() {
             match event.token() {
                 LISTENER => self.acceptor.resume(),
                 STDIN => {}
@@ -156,12 +172,20 @@ impl Proxy {
 }
 
 impl EventLoop for Proxy {
-    fn is_over(&self, wanted: u64) -> bool {
+    ghost use Rattle.std.specs.Prelude.{Some, nat_le};
+
+    ghost over = { λ p wanted. Some (nat_le wanted p.pairs.ended) };
+
+    ghost accepts = { λ p. p.acceptor };
+
+    fn is_over(&self, wanted: u64) -> bool
+        ensures { result ≡ nat_le wanted self.now.pairs.ended }
+    {
         self.pairs.ended() >= wanted
     }
 
-    fn registry(&self) -> &Registry {
-        self.acceptor.registry()
+    fn acceptor(&self) -> &Acceptor {
+        &self.acceptor
     }
 
     fn serve_some<R: Net + Files + Clock, W: Write>(
@@ -170,7 +194,9 @@ impl EventLoop for Proxy {
         events: &mut Events<Global>,
         sink: &mut Sink<'_, R>,
         out: &mut W,
-    ) -> io::Result<()> {
+    ) -> io::Result<()>
+        ensures { self.new.upstream ≡ self.old.upstream }
+    {
         out.flush()?;
         sink.flush()?;
         let least = self.pairs.least_delay(rt)?;

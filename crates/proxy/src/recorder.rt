@@ -1,8 +1,10 @@
 //! Appends records of the messages that pass to a file.
 
-ghost use Rattle.std.specs.Prelude.{◌≡◌, [], IfOk, OnOk, is_none};
+ghost use Rattle.std.specs.Prelude.{◌≡◌, ◌+◌, ◌<◌, ◌≤◌, [], IfOk, IsSomeAnd, OnOk, Some};
+ghost use Rattle.std.specs.Prelude.{false, is_none};
+ghost use Rattle.std.specs.Int.{IsNonNegative};
 ghost use Rattle.std.specs.Io.KnownBytes.{Keeps};
-ghost use Rattle.wire_frames.specs.{frame_bytes};
+ghost use Rattle.wire_frames.specs.{frame_bytes, signature};
 ghost use Rattle.proxy.specs.Recording.{IsRecorded, log_of, recorded};
 
 use crate::direction::Direction;
@@ -28,8 +30,10 @@ fn recorded_direction(direction: Direction) -> wire_frames::Direction
     }
 }
 
-/// Returns the microseconds since 1970.
-fn micros_now(clock: &impl Clock) -> io::Result<i64> {
+/// Returns the microseconds since 1970, or 0 before it.
+fn micros_now(clock: &impl Clock) -> io::Result<i64>
+    ensures { IfOk result IsNonNegative }
+{
     let Ok(since) = SystemTime::now(clock)?.duration_since(UNIX_EPOCH) else {
         return Ok(0);
     };
@@ -57,7 +61,13 @@ impl<'r, R: Files + Clock> Recorder<'r, R> {
     /// # Errors
     ///
     /// Returns an error if the file can't be created, or memory runs out.
-    pub fn create(rt: &'r R, alloc: Global, path: &str, limit: u64) -> io::Result<Recorder<'r, R>> {
+    pub fn create(rt: &'r R, alloc: Global, path: &str, limit: u64) -> io::Result<Recorder<'r, R>>
+        ensures signed { 8 ≤ limit → IfOk result (λ r. (r.waiting.bytes.items ≡ signature)
+            × IsSomeAnd r.waiting.left (λ left. left + 8 ≡ limit)) }
+        ensures small { limit < 8 → IfOk result (λ r. (r.waiting.bytes.items ≡ [])
+            × (r.waiting.left ≡ Some 0)) }
+        ensures works { IfOk result (λ r. r.failed ≡ false) }
+    {
         let file = File::create(rt, path)?;
         let waiting = RecordBuf::begin(alloc, limit)?;
         Ok(Recorder {

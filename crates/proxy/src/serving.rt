@@ -1,5 +1,13 @@
 //! Runs a proxy, from its first line until enough connections ended, or standard input.
 
+ghost use Rattle.std.specs.Prelude.{◌≡◌, ◌≢◌, IfErr, IfOk, IsOk, OnOk, false, is_some, true};
+ghost use Rattle.std.specs.Io.KnownBytes.{Appends};
+ghost use Rattle.std.specs.Net.Socket.{socket_ip, socket_port};
+ghost use Rattle.std.specs.declared.net.socket_addr.SocketAddr.{SocketAddr};
+ghost use Rattle.sockets.specs.{listening_line};
+ghost use Rattle.proxy.specs.Addresses.{IsLoopback, IsReached};
+ghost use Rattle.proxy.specs.Faults.{IsOfAddresses, IsOfTelling, IsPastListening, IsRecordFile};
+
 use crate::event_loop::serve_lent;
 use crate::fault::ProxyFault;
 use crate::options::Options;
@@ -18,7 +26,9 @@ use std::rt::Files;
 use std::time::Clock;
 
 /// Returns the address that a connection to this one comes to: of all addresses the loopback one.
-fn reached(address: IpAddr) -> IpAddr {
+fn reached(address: IpAddr) -> IpAddr
+    ensures { IsReached address result }
+{
     match address.to_canonical() {
         IpAddr::V4(far) if far.is_unspecified() => IpAddr::V4(Ipv4Addr::LOCALHOST),
         IpAddr::V6(far) if far.is_unspecified() => IpAddr::V6(Ipv6Addr::LOCALHOST),
@@ -42,13 +52,19 @@ fn sender<R: Net>(rt: &R, address: IpAddr) -> io::Result<IpAddr> {
 }
 
 /// Returns true if this machine has the address, so that it sends to it from there.
-fn is_own<R: Net>(rt: &R, address: IpAddr) -> bool {
+fn is_own<R: Net>(rt: &R, address: IpAddr) -> bool
+    ensures { IsLoopback address → result ≡ true }
+{
     address.is_loopback() || matches!(sender(rt, address), Ok(own) if own == address)
 }
 
 /// Returns true if who connects to `address` comes to the listener at `local`. One that listens at
 /// all addresses, and those of IPv4 too if it is at one of IPv6, is met at this machine's own.
-fn meets<R: Net>(rt: &R, address: SocketAddr, local: SocketAddr) -> bool {
+fn meets<R: Net>(rt: &R, address: SocketAddr, local: SocketAddr) -> bool
+    ensures other { socket_port address ≢ socket_port local → result ≡ false }
+    ensures same { socket_port address ≡ socket_port local
+        → IsReached (socket_ip address) (socket_ip local) → result ≡ true }
+{
     let (far, near) = (reached(address.ip()), local.ip());
     let is_all = near.is_unspecified() && (near.is_ipv6() || far.is_ipv4());
     address.port() == local.port() && (far == near || is_all && is_own(rt, far))
@@ -60,7 +76,11 @@ fn tell<R: Files, W: Write>(
     file: Option<&str>,
     local: SocketAddr,
     out: &mut W,
-) -> Result<(), ProxyFault> {
+) -> Result<(), ProxyFault>
+    ensures told { OnOk result
+        (Appends (W.contents out.old) (W.contents out.new) (listening_line local)) }
+    ensures kind { IfErr result IsOfTelling }
+{
     tell_listening(local, out)?;
     match tell_port(rt, file, local.port()) {
         Ok(()) => Ok(()),
@@ -73,7 +93,11 @@ fn find_addresses<R: Net>(
     rt: &R,
     server: &str,
     listener: &TcpListener,
-) -> Result<(SocketAddr, SocketAddr), ProxyFault> {
+) -> Result<(SocketAddr, SocketAddr), ProxyFault>
+    ensures kind { IfErr result IsOfAddresses }
+    ensures two { IfOk result (λ two. socket_port two.0 ≡ socket_port two.1
+        → IsReached (socket_ip two.0) (socket_ip two.1) → ⊥) }
+{
     let upstream = match address_of(rt, server) {
         Ok(upstream) => upstream,
         Err(error) => return Err(ProxyFault::Upstream(error)),
@@ -91,7 +115,11 @@ fn make_sink<'r, R: Files + Clock>(
     rt: &'r R,
     alloc: Global,
     options: Options<'_>,
-) -> Result<Sink<'r, R>, ProxyFault> {
+) -> Result<Sink<'r, R>, ProxyFault>
+    ensures kind { IfErr result IsRecordFile }
+    ensures show { IfOk result (λ s. s.show ≡ options.entry.show) }
+    ensures recorder { IfOk result (λ s. is_some s.recorder ≡ is_some options.entry.record) }
+{
     match Sink::new(rt, alloc, options) {
         Ok(sink) => Ok(sink),
         Err(error) => Err(ProxyFault::RecordFile(error)),
@@ -105,7 +133,14 @@ fn begin<'r, R: Net + Files + Clock, W: Write>(
     options: Options<'_>,
     listener: &TcpListener,
     out: &mut W,
-) -> Result<(SocketAddr, Sink<'r, R>), ProxyFault> {
+) -> Result<(SocketAddr, Sink<'r, R>), ProxyFault>
+    ensures told { OnOk result ((local : SocketAddr)
+        × Appends (W.contents out.old) (W.contents out.new) (listening_line local)) }
+    ensures show { IfOk result (λ begun. begun.1.show ≡ options.entry.show) }
+    ensures recorder { IfOk result (λ begun.
+        is_some begun.1.recorder ≡ is_some options.entry.record) }
+    ensures kind { IfErr result IsPastListening }
+{
     let (upstream, local) = find_addresses(rt, options.upstream, listener)?;
     let sink = make_sink(rt, alloc, options)?;
     tell(rt, options.port_file, local, out)?;
@@ -126,7 +161,13 @@ pub fn listen<'r, R: Net + Files + Clock, W: Write>(
     alloc: Global,
     options: Options<'_>,
     out: &mut W,
-) -> Result<(TcpListener, SocketAddr, Sink<'r, R>), ProxyFault> {
+) -> Result<(TcpListener, SocketAddr, Sink<'r, R>), ProxyFault>
+    ensures told { OnOk result ((local : SocketAddr)
+        × Appends (W.contents out.old) (W.contents out.new) (listening_line local)) }
+    ensures show { IfOk result (λ begun. begun.2.show ≡ options.entry.show) }
+    ensures recorder { IfOk result (λ begun.
+        is_some begun.2.recorder ≡ is_some options.entry.record) }
+{
     let listener = match bind(rt, options.listen) {
         Ok(listener) => listener,
         Err(error) => return Err(ProxyFault::Listen(error)),
@@ -178,7 +219,9 @@ pub fn run<R: Net + Files + Clock + Input, W: Write + Drop>(
     options: Options<'_>,
     script: Option<Script>,
     out: W,
-) -> Result<(), ProxyFault> {
+) -> Result<(), ProxyFault>
+    ensures { options.entry.connections ≡ 0 → IsOk result }
+{
     if options.connections == 0 {
         return Ok(());
     }

@@ -1,6 +1,7 @@
 //! A TCP connection as a link whose sending can be ended.
 
-ghost use Rattle.std.specs.Prelude.{None};
+ghost use Rattle.std.specs.Prelude.{◌≡◌, IfOk, IsOk, None};
+ghost use Rattle.std.specs.Io.{ReadsAtMost, WritesAtMost};
 
 use mio::net::TcpStream;
 use sockets::EndSending;
@@ -16,19 +17,28 @@ use wire_stream::{Link, LinkFault, Moved, TcpLink};
 struct Shared(Rc<TcpStream>);
 
 impl Read for Shared {
-    fn read(&mut self, buffer: &mut [u8]) -> io::Result<usize> {
+    fn read(&mut self, buffer: &mut [u8]) -> io::Result<usize>
+        ensures bound { ReadsAtMost result buffer.new }
+        ensures same { self.new ≡ self.old }
+    {
         let mut stream: &TcpStream = &self.0;
         stream.read(buffer)
     }
 }
 
 impl Write for Shared {
-    fn write(&mut self, bytes: &[u8]) -> io::Result<usize> {
+    fn write(&mut self, bytes: &[u8]) -> io::Result<usize>
+        ensures bound { WritesAtMost result bytes.now }
+        ensures same { self.new ≡ self.old }
+    {
         let mut stream: &TcpStream = &self.0;
         stream.write(bytes)
     }
 
-    fn flush(&mut self) -> io::Result<()> {
+    fn flush(&mut self) -> io::Result<()>
+        ensures works { IsOk result }
+        ensures same { self.new ≡ self.old }
+    {
         Ok(())
     }
 }
@@ -48,7 +58,12 @@ impl Socket {
     /// # Errors
     ///
     /// Returns `AllocError` if memory runs out. The stream is closed then.
-    pub fn new(alloc: Global, stream: TcpStream) -> Result<Socket, AllocError> {
+    pub fn new(alloc: Global, stream: TcpStream) -> Result<Socket, AllocError>
+        ensures failures { IfOk result (λ s. s.failures ≡ 0) }
+        ensures endings { IfOk result (λ s. s.endings ≡ 0) }
+        ensures ends { IfOk result (λ s. s.link.ends ≡ 0) }
+        ensures waits { IfOk result (λ s. s.link.waits ≡ 0) }
+    {
         let stream = Rc::new(alloc, stream)?;
         let shared = Shared(stream.clone()?);
         Ok(Socket {

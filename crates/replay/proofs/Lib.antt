@@ -4,3 +4,10 @@ pub mod Replies
 pub mod FirstOnes
 pub mod MatchingLaws
 pub mod MatchingSteps
+pub mod Doing
+pub mod Giving
+pub mod Counting
+pub mod Pieces
+pub mod Sending
+pub mod Feeding
+pub mod Placing

@@ -194,6 +194,7 @@ kept_step s (runs.ask id) k = kept_ask (count_of id s.open_ids) id s.awaited s.e
 kept_step s (runs.expect a) k = kept_expect a (record s { open_ids = open_behind a s.open_ids }) (first_to a.request s.early) refl k
 kept_step s (runs.meet b) k = kept_met b s (has_id b.request s.given_up_ids) k
 kept_step s (runs.give_up now) k = kept_given_up now s.awaited s.early k
+kept_step s (runs.fail broken) k = k
 
 kept_acts : (s : Seen) (acts : List Act) → IsOneSided s → IsOneSided (after_acts s acts)
 kept_acts s [] k = k
@@ -239,6 +240,7 @@ told_step r s (runs.ask id) k = told_asked r s.awaited (beyond (count_of id s.op
 told_step r s (runs.expect a) k = told_expect r a (record s { open_ids = open_behind a s.open_ids }) (first_to a.request s.early) refl k
 told_step r s (runs.meet b) k = told_met r b s (has_id b.request s.given_up_ids)
 told_step r s (runs.give_up now) k = told_given_up r now s.awaited
+told_step r s (runs.fail broken) k = sym (append-nil (bytes_to r s.awaited))
 
 in_order : (r : ℕ) (s : Seen) (acts : List Act) → IsOneSided s → bytes_to r (recorded_by (found_by s acts)) ++ bytes_to r (after_acts s acts).awaited ≡ bytes_to r s.awaited ++ bytes_to r (read_by acts)
 in_order r s [] k = sym (append-nil (bytes_to r s.awaited))

@@ -1,8 +1,8 @@
 -- What a replay counts, and what it came to.
-use Rattle.std.specs.Prelude.{◌≡◌, ◌+◌, ◌⊎◌, ℕ, None, Option, is_some, min, true}
+use Rattle.std.specs.Prelude.{◌≡◌, ◌+◌, ◌⊎◌, ℕ, List, [], ◌∷◌, None, Option, is_some, min, true}
 use Rattle.replay.specs.declared.finding.Finding.{Finding}
-use Rattle.replay.specs.declared.finding.Finding.TheVariants.{Compare, Late, Missing, Unexpected}
-use Rattle.replay.specs.declared.finding.Finding.TheVariants.{Unrecorded}
+use Rattle.replay.specs.declared.finding.Finding.TheVariants.{Compare, Failed, Late, Missing}
+use Rattle.replay.specs.declared.finding.Finding.TheVariants.{Unexpected, Unrecorded}
 use Rattle.replay.specs.declared.input_fault.InputFault.{InputFault}
 use Rattle.replay.specs.declared.replaying.Outcome.{Outcome}
 use Rattle.replay.specs.declared.replaying.Outcome.TheVariants.{Different, Fault, Same}
@@ -41,3 +41,15 @@ IsCounted (Unexpected b) before after =
     after ≡ record before { unexpected = one_more before.unexpected }
 IsCounted (Unrecorded b) before after =
     after ≡ record before { unrecorded = one_more before.unrecorded }
+IsCounted (Failed broken) before after = after ≡ record before { failed = one_more before.failed }
+
+-- All of them were counted, one after another, and nothing else.
+abbrev pub AreCounted : List Finding → Tally → Tally → Type 0
+AreCounted [] before after = after ≡ before
+AreCounted (f ∷ fs) before after =
+    (between : Tally) × IsCounted f before between × AreCounted fs between after
+
+-- Some findings were counted, and nothing else.
+pub record HasTold (before after : Tally) : Type 0 where
+  pub found : List Finding
+  pub counted : AreCounted found before after

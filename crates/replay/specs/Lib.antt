@@ -8,3 +8,14 @@ pub mod Matchings
 pub mod MatchingRuns
 pub mod Counts
 pub mod Stalls
+pub mod Flags
+pub mod Plain
+pub mod Watches
+pub mod LastLines
+pub mod Faults
+pub mod Gives
+pub mod Talks
+pub mod Reading
+pub mod Lanes
+pub mod Names
+pub mod Takes

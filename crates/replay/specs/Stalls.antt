@@ -1,5 +1,5 @@
 -- What is left to be sent, and how long the server may take nothing of it.
-use Rattle.std.specs.Prelude.{ℕ, Option, None, Some}
+use Rattle.std.specs.Prelude.{ℕ, Bool, Option, None, Some, false, nat_le}
 use Rattle.replay.specs.Paces.{plus}
 use Rattle.replay.specs.declared.channel.Sent.{Sent}
 use Rattle.replay.specs.declared.channel.Sent.TheVariants.{All, Nothing, Part}
@@ -16,3 +16,8 @@ stalled All before now patience = None
 stalled Part before now patience = Some (stall_from now patience)
 stalled Nothing None now patience = Some (stall_from now patience)
 stalled Nothing (Some stall) now patience = Some stall
+
+-- whether the server took nothing of what is left for too long by now
+abbrev pub is_late : ℕ → Option Stall → Bool
+is_late now None = false
+is_late now (Some stall) = nat_le stall.due now

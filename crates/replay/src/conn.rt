@@ -1,37 +1,39 @@
 //! A connection of the record, and the one to the server over which its requests go.
 
-ghost use Rattle.std.specs.Prelude.{◌≡◌, is_none};
-ghost use Rattle.replay.specs.Stalls.{stalled};
+ghost use Rattle.std.specs.Prelude.{◌≡◌, ◌⊎◌, ◌++◌, ◌==◌, ◌∷◌, [], false, IfSome, List, None};
+ghost use Rattle.std.specs.Prelude.{Ok, OnOk, Some, is_none, length, not, option_map, ℕ};
+ghost use Rattle.wire_frames.specs.{IsWholeFrame, frame_bytes};
+ghost use Rattle.replay.specs.Gives.{GivesOver};
+ghost use Rattle.replay.specs.MatchingRuns.{Act, Does, DoesSome, expect, meet};
+ghost use Rattle.replay.specs.Matchings.{first_due, left_over, nothing, seen};
+ghost use Rattle.replay.specs.Paces.{least};
+ghost use Rattle.replay.specs.Stalls.{is_late, stalled};
+ghost use Rattle.replay.specs.Talks.{IsAnswer, asking, closing, due_of, is_ended, losing};
+ghost use Rattle.replay.specs.Talks.{request_in};
+ghost use Rattle.replay.specs.declared.answers.Answer.{Answer};
 
 use crate::channel::{Broken, Channel, Coming, Sent};
 use crate::dialog::Dialog;
 use crate::finding::Finding;
 use crate::pace::{Taken, earlier};
-use crate::teller::Teller;
 use std::alloc::{AllocError, Global};
-use std::io;
-use std::io::{ErrorKind, Write};
+use std::io::ErrorKind;
 use wire_frames::RawFrame;
-use wire_stream::LinkFault;
-
-/// The most messages that a turn takes.
-const STEPS: u32 = 1024;
+use wire_stream::{Link, LinkFault};
 
 /// The most messages that are taken of a connection that failed. The system holds fewer.
 const HELD: u32 = 1 << 20;
 
 /// A connection of the record, and the one to the server.
 #[derive(Drop)]
-pub struct Conn {
+pub struct Conn<L: Link + Drop> {
     /// The number of the recorded connection.
-    number: u64,
+    pub number: u64,
     /// The connection to the server, as long as something may go over it.
-    channel: Option<Channel>,
-    /// Why nothing goes over it, if it is so and wasn't told yet.
+    channel: Option<Channel<L>>,
+    /// Why nothing goes over it, if it is so and wasn't found yet.
     untold: Option<Broken>,
     dialog: Dialog,
-    /// What was found and not told yet.
-    findings: Vec<Finding>,
     /// Up to when the server has to take more of what is to be sent, if that wasn't sent.
     stall: Option<Stall>,
     /// More may be there than the last turn took.
@@ -62,47 +64,62 @@ fn stall_after(sent: Sent, before: Option<Stall>, now: u64, patience: u64) -> Op
     }
 }
 
-impl Conn {
+/// Returns true if it was the server that ended a connection.
+fn is_ended(broken: Broken) -> bool
+    ensures { result ≡ is_ended broken }
+{
+    matches!(broken, Broken::Ended)
+}
+
+impl<L: Link + Drop> Conn<L> {
     /// Begins a connection of this number, over one to the server, unless there is none, for a
-    /// reason that is told later. It takes no memory.
-    fn new(alloc: Global, number: u64, channel: Option<Channel>, untold: Option<Broken>) -> Conn
-        ensures { result.number ≡ number }
+    /// reason that is found later. It takes no memory.
+    fn new(
+        alloc: Global,
+        number: u64,
+        channel: Option<Channel<L>>,
+        untold: Option<Broken>,
+    ) -> Conn<L>
+        ensures number { result.number ≡ number }
+        ensures channel { result.channel ≡ channel }
+        ensures untold { result.untold ≡ untold }
+        ensures seen { seen result.dialog.matching ≡ nothing }
+        ensures idle { (result.stall ≡ None) × (result.has_more ≡ false) }
     {
         Conn {
             number,
             channel,
             untold,
             dialog: Dialog::new(alloc),
-            findings: Vec::new(alloc),
             stall: None,
             has_more: false,
         }
     }
 
     /// Begins a connection of this number over one to the server. It takes no memory.
-    pub fn over(alloc: Global, number: u64, channel: Channel) -> Conn
-        ensures { result.number ≡ number }
+    pub fn over(alloc: Global, number: u64, channel: Channel<L>) -> Conn<L>
+        ensures number { result.number ≡ number }
+        ensures channel { result.channel ≡ Some channel }
+        ensures seen { seen result.dialog.matching ≡ nothing }
     {
         Conn::new(alloc, number, Some(channel), None)
     }
 
     /// Begins a connection of this number to which there is none to the server, for this reason,
-    /// which is told with the first record of it. It takes no memory.
-    pub fn lost(alloc: Global, number: u64, broken: Broken) -> Conn
-        ensures { result.number ≡ number }
+    /// which is found with the first record of it. It takes no memory.
+    pub fn lost(alloc: Global, number: u64, broken: Broken) -> Conn<L>
+        ensures number { result.number ≡ number }
+        ensures channel { result.channel ≡ None }
+        ensures untold { result.untold ≡ Some broken }
+        ensures seen { seen result.dialog.matching ≡ nothing }
     {
         Conn::new(alloc, number, None, Some(broken))
     }
 
-    /// Returns the number of the recorded connection.
-    pub fn number(&self) -> u64
-        ensures { result ≡ self.now.number }
-    {
-        self.number
-    }
-
     /// Returns true if recorded answers are awaited.
-    pub fn awaits(&self) -> bool {
+    pub fn awaits(&self) -> bool
+        ensures { result ≡ not (length (seen self.now.dialog.matching).awaited == 0) }
+    {
         self.dialog.awaits()
     }
 
@@ -120,95 +137,119 @@ impl Conn {
         self.stall.is_none()
     }
 
-    /// Tells what was found.
-    fn tell<W: Write + Drop>(&mut self, teller: &mut Teller<'_, W>) -> io::Result<()> {
-        for finding in &self.findings {
-            teller.tell(self.number, finding)?;
-        }
-        self.findings.clear();
-        Ok(())
-    }
-
-    /// Tells that nothing more goes over the connection, if it is so and wasn't told, and that the
+    /// Finds that nothing more goes over the connection, if it is so and wasn't found, and that the
     /// awaited answers are missing.
-    fn tell_lost<W: Write + Drop>(&mut self, teller: &mut Teller<'_, W>) -> io::Result<()> {
+    fn lose(&mut self, findings: &mut Vec<Finding>) -> Result<(), AllocError>
+        ensures does { OnOk result (Does (losing self.old.untold)
+            (seen self.old.dialog.matching) (seen self.new.dialog.matching)
+            findings.old.items findings.new.items) }
+        ensures others { self.new ≡ record self.old { untold = None; dialog = self.new.dialog } }
+    {
         if let Some(broken) = self.untold.take() {
-            teller.tell_failed(self.number, broken)?;
+            findings.push(Finding::Failed(broken))?;
         }
-        self.dialog.give_up(u64::MAX, &mut self.findings)?;
-        self.tell(teller)
+        self.dialog.give_up(u64::MAX, findings)
     }
 
-    /// Closes the connection, over which nothing more goes. It is told if answers are awaited or a
-    /// request wasn't sent whole.
-    fn close<W: Write + Drop>(
-        &mut self,
-        broken: Broken,
-        teller: &mut Teller<'_, W>,
-    ) -> io::Result<()> {
-        let is_told = self.awaits() || !self.is_sent() || !matches!(broken, Broken::Ended);
+    /// Closes the connection, over which nothing more goes. It is found if answers are awaited or a
+    /// request wasn't sent whole, or if it wasn't the server that ended it.
+    fn close(&mut self, broken: Broken, findings: &mut Vec<Finding>) -> Result<(), AllocError>
+        ensures does { OnOk result
+            (Does (closing (seen self.old.dialog.matching) self.old.stall broken)
+            (seen self.old.dialog.matching) (seen self.new.dialog.matching)
+            findings.old.items findings.new.items) }
+        ensures closed { self.new.channel ≡ None }
+        ensures sent { self.new.stall ≡ None }
+        ensures number { self.new.number ≡ self.old.number }
+        ensures more { self.new.has_more ≡ self.old.has_more }
+    {
+        let is_told = self.awaits() || !self.is_sent() || !is_ended(broken);
         self.channel = None;
         self.untold = Some(broken);
         self.stall = None;
         if is_told {
-            self.tell_lost(teller)
-        } else {
-            Ok(())
+            self.lose(findings)?;
+        }
+        Ok(())
+    }
+
+    /// Returns why nothing more goes over the connection, on which sending failed.
+    fn unsent(&self, fault: LinkFault) -> Broken
+        ensures { (result ≡ Broken.Sending fault) ⊎ (result ≡ Broken.Unconnected fault) }
+    {
+        match &self.channel {
+            Some(channel) => channel.cause(fault, Broken::Sending(fault)),
+            None => Broken::Sending(fault),
         }
     }
 
     /// Takes the answers that came before sending failed, and closes the connection.
-    fn fail<W: Write + Drop>(
-        &mut self,
-        fault: LinkFault,
-        teller: &mut Teller<'_, W>,
-    ) -> io::Result<()> {
-        let _ = self.take_messages(HELD, teller)?;
-        let broken = match &self.channel {
-            Some(channel) => channel.unsent(fault),
-            None => Broken::Sending(fault),
-        };
-        self.close(broken, teller)
+    fn fail(&mut self, fault: LinkFault, findings: &mut Vec<Finding>) -> Result<(), AllocError>
+        ensures does { OnOk result
+            (DoesSome (seen self.old.dialog.matching) (seen self.new.dialog.matching)
+            findings.old.items findings.new.items) }
+        ensures closed { OnOk result (self.new.channel ≡ None) }
+        ensures number { self.new.number ≡ self.old.number }
+    {
+        self.take_held(findings)?;
+        let broken = self.unsent(fault);
+        self.close(broken, findings)?;
+        Ok(())
     }
 
     /// Sends what waits to be sent. The server has to take more of the rest within `patience`, which
     /// begins anew whenever it took some.
-    fn flush<W: Write + Drop>(
+    fn flush(
         &mut self,
         now: u64,
         patience: u64,
-        teller: &mut Teller<'_, W>,
-    ) -> io::Result<()> {
+        findings: &mut Vec<Finding>,
+    ) -> Result<(), AllocError>
+        ensures does { OnOk result
+            (DoesSome (seen self.old.dialog.matching) (seen self.new.dialog.matching)
+            findings.old.items findings.new.items) }
+        ensures given { OnOk result (GivesOver (λ c. L.sent c.link) (λ c. c.waiting)
+            self.old.channel self.new.channel []) }
+        ensures number { self.new.number ≡ self.old.number }
+    {
         let Some(channel) = &mut self.channel else {
             return Ok(());
         };
         match channel.flush() {
             Ok(sent) => {
                 self.stall = stall_after(sent, self.stall, now, patience);
-                Ok(())
             }
-            Err(fault) => self.fail(fault, teller),
+            Err(fault) => self.fail(fault, findings)?,
         }
+        Ok(())
     }
 
     /// Sends a request. Of what can't be sent at once, the server has to take some within some time.
+    /// It is found if nothing goes over the connection.
     ///
     /// # Errors
     ///
-    /// Returns an error if writing fails or memory runs out. A connection that fails is told.
-    pub fn send<W: Write + Drop>(
+    /// Returns `AllocError` if memory runs out.
+    pub fn send(
         &mut self,
         frame: RawFrame<'_>,
         taken: Taken,
-        teller: &mut Teller<'_, W>,
-    ) -> io::Result<()> {
+        findings: &mut Vec<Finding>,
+    ) -> Result<(), AllocError>
+        ensures lost { self.old.channel ≡ None → OnOk result (Does (losing self.old.untold)
+            (seen self.old.dialog.matching) (seen self.new.dialog.matching)
+            findings.old.items findings.new.items) }
+        ensures given { OnOk result (GivesOver (λ c. L.sent c.link) (λ c. c.waiting)
+            self.old.channel self.new.channel (frame_bytes frame.entry)) }
+        ensures number { self.new.number ≡ self.old.number }
+    {
         match &mut self.channel {
             Some(channel) => channel.push(frame.as_bytes())?,
-            None => return self.tell_lost(teller),
+            None => return self.lose(findings),
         }
-        self.dialog.ask(frame, taken, &mut self.findings)?;
-        self.tell(teller)?;
-        self.flush(taken.now, taken.patience(None), teller)
+        self.dialog.ask(frame, taken, findings)?;
+        self.flush(taken.now, taken.patience(None), findings)?;
+        Ok(())
     }
 
     /// Awaits a recorded answer for as long as the record took for it, and some time more, or
@@ -216,114 +257,179 @@ impl Conn {
     ///
     /// # Errors
     ///
-    /// Returns an error if writing fails or memory runs out.
-    pub fn expect<W: Write + Drop>(
+    /// Returns `AllocError` if memory runs out.
+    pub fn expect(
         &mut self,
         frame: RawFrame<'_>,
         taken: Taken,
-        teller: &mut Teller<'_, W>,
-    ) -> io::Result<()> {
-        self.dialog.expect(frame, taken, &mut self.findings)?;
-        self.tell(teller)?;
+        findings: &mut Vec<Finding>,
+    ) -> Result<(), AllocError>
+        ensures does { OnOk result ((answer : Answer) × (acts : List Act)
+            × IsAnswer self.old.dialog.recorded.list.items (frame_bytes frame.entry)
+            (due_of (request_in self.old.dialog.recorded.list.items (frame_bytes frame.entry)) taken
+            self.old.dialog.asked.requests.items) answer
+            × Does (expect answer ∷ acts)
+            (seen self.old.dialog.matching) (seen self.new.dialog.matching)
+            findings.old.items findings.new.items) }
+        ensures channel { self.new.channel ≡ self.old.channel }
+        ensures number { self.new.number ≡ self.old.number }
+    {
+        self.dialog.expect(frame, taken, findings)?;
         if self.channel.is_none() && self.awaits() {
-            return self.tell_lost(teller);
+            self.lose(findings)?;
         }
         Ok(())
     }
 
     /// Takes the message that came, and lets go of it in the connection.
-    fn take_message(&mut self) -> Result<(), AllocError> {
+    fn take_message(&mut self, findings: &mut Vec<Finding>) -> Result<(), AllocError>
+        ensures does { OnOk result
+            (DoesSome (seen self.old.dialog.matching) (seen self.new.dialog.matching)
+            findings.old.items findings.new.items) }
+        ensures given { GivesOver (λ c. L.sent c.link) (λ c. c.waiting)
+            self.old.channel self.new.channel [] }
+        ensures number { self.new.number ≡ self.old.number }
+    {
         let Some(channel) = &mut self.channel else {
             return Ok(());
         };
         let Some(frame) = channel.message() else {
             return Ok(());
         };
-        self.dialog.meet(frame, &mut self.findings)?;
+        self.dialog.meet(frame, findings)?;
         channel.release();
         Ok(())
     }
 
     /// Receives until a message is whole.
-    fn receive(&mut self) -> Result<Coming, AllocError> {
+    fn receive(&mut self) -> Result<Coming, AllocError>
+        ensures given { GivesOver (λ c. L.sent c.link) (λ c. c.waiting)
+            self.old.channel self.new.channel [] }
+        ensures none { self.old.channel ≡ None → result ≡ Ok Coming.Later }
+        ensures others { self.new ≡ record self.old { channel = self.new.channel } }
+    {
         match &mut self.channel {
             Some(channel) => channel.receive(),
             None => Ok(Coming::Later),
         }
     }
 
-    /// Takes the messages that came, up to `most`. Returns `Coming::Message` if there may be more.
-    fn take_messages<W: Write + Drop>(
-        &mut self,
-        most: u32,
-        teller: &mut Teller<'_, W>,
-    ) -> io::Result<Coming> {
-        for _ in 0..most {
+    /// Takes all messages that came.
+    fn take_held(&mut self, findings: &mut Vec<Finding>) -> Result<(), AllocError>
+        ensures does { OnOk result
+            (DoesSome (seen self.old.dialog.matching) (seen self.new.dialog.matching)
+            findings.old.items findings.new.items) }
+        ensures number { self.new.number ≡ self.old.number }
+    {
+        for _ in 0..HELD {
             match self.receive()? {
-                Coming::Message => {
-                    self.take_message()?;
-                    self.tell(teller)?;
-                }
-                end => return Ok(end),
+                Coming::Message => self.take_message(findings)?,
+                Coming::Later | Coming::Over(_) => break,
             }
         }
-        Ok(Coming::Message)
+        Ok(())
     }
 
-    /// Sends what waits to be sent, and takes the messages that came, up to `STEPS`, so that a server
-    /// that sends without end keeps nothing else waiting.
+    /// Takes a message that came, if one did, and notes whether more may be there. If nothing more
+    /// comes, closes the connection.
     ///
     /// # Errors
     ///
-    /// Returns an error if writing fails or memory runs out. A connection that fails is told.
-    pub fn turn<W: Write + Drop>(
-        &mut self,
-        now: u64,
-        teller: &mut Teller<'_, W>,
-    ) -> io::Result<()> {
+    /// Returns `AllocError` if memory runs out.
+    pub fn step(&mut self, findings: &mut Vec<Finding>) -> Result<(), AllocError>
+        ensures does { OnOk result
+            (DoesSome (seen self.old.dialog.matching) (seen self.new.dialog.matching)
+            findings.old.items findings.new.items) }
+        ensures given { OnOk result (GivesOver (λ c. L.sent c.link) (λ c. c.waiting)
+            self.old.channel self.new.channel []) }
+        ensures number { self.new.number ≡ self.old.number }
+    {
+        self.has_more = false;
+        match self.receive()? {
+            Coming::Message => {
+                self.has_more = true;
+                self.take_message(findings)?;
+                Ok(())
+            }
+            Coming::Over(broken) => {
+                self.close(broken, findings)?;
+                Ok(())
+            }
+            Coming::Later => Ok(()),
+        }
+    }
+
+    /// Sends what waits to be sent.
+    ///
+    /// # Errors
+    ///
+    /// Returns `AllocError` if memory runs out.
+    pub fn resume(&mut self, now: u64, findings: &mut Vec<Finding>) -> Result<(), AllocError>
+        ensures does { OnOk result
+            (DoesSome (seen self.old.dialog.matching) (seen self.new.dialog.matching)
+            findings.old.items findings.new.items) }
+        ensures given { OnOk result (GivesOver (λ c. L.sent c.link) (λ c. c.waiting)
+            self.old.channel self.new.channel []) }
+        ensures number { self.new.number ≡ self.old.number }
+    {
         if let Some(stall) = self.stall {
-            self.flush(now, stall.patience, teller)?;
+            self.flush(now, stall.patience, findings)?;
         }
-        let coming = self.take_messages(STEPS, teller)?;
-        self.has_more = matches!(coming, Coming::Message);
-        match coming {
-            Coming::Over(broken) => self.close(broken, teller),
-            Coming::Message | Coming::Later => Ok(()),
-        }
+        Ok(())
     }
 
     /// Closes the connection if the server took nothing of what is to be sent for too long.
-    /// Otherwise tells the answers that are missing by then, and gives them up.
+    /// Otherwise finds the answers that are missing by then, and gives them up.
     ///
     /// # Errors
     ///
-    /// Returns an error if writing fails or memory runs out.
-    pub fn expire<W: Write + Drop>(
-        &mut self,
-        now: u64,
-        teller: &mut Teller<'_, W>,
-    ) -> io::Result<()> {
-        if self.stall.is_some_and(|stall| stall.due <= now) {
+    /// Returns `AllocError` if memory runs out.
+    pub fn expire(&mut self, now: u64, findings: &mut Vec<Finding>) -> Result<(), AllocError>
+        ensures does { OnOk result
+            (DoesSome (seen self.old.dialog.matching) (seen self.new.dialog.matching)
+            findings.old.items findings.new.items) }
+        ensures given { OnOk result (GivesOver (λ c. L.sent c.link) (λ c. c.waiting)
+            self.old.channel self.new.channel []) }
+        ensures number { self.new.number ≡ self.old.number }
+    {
+        if self.is_late(now) {
             let kind = ErrorKind::TimedOut;
-            return self.fail(LinkFault { kind }, teller);
+            self.fail(LinkFault { kind }, findings)?;
+        } else {
+            self.dialog.give_up(now, findings)?;
         }
-        self.dialog.give_up(now, &mut self.findings)?;
-        self.tell(teller)
+        Ok(())
+    }
+
+    /// Returns true if the server took nothing of what is to be sent for too long by now.
+    fn is_late(&self, now: u64) -> bool
+        ensures { result ≡ is_late now self.now.stall }
+    {
+        match self.stall {
+            Some(stall) => stall.due <= now,
+            None => false,
+        }
     }
 
     /// Returns the first moment up to which an answer is awaited, or bytes have to be sent.
-    pub fn least_due(&self) -> Option<u64> {
+    pub fn least_due(&self) -> Option<u64>
+        ensures { result ≡ least (first_due (seen self.now.dialog.matching).awaited)
+            (option_map (λ stall. stall.due) self.now.stall) }
+    {
         earlier(self.dialog.due_first(), self.stall.map(|stall| stall.due))
     }
 
-    /// Counts the answers that are left at the end and that the record doesn't have: those to
-    /// requests whose last answer it doesn't have either are told by no line.
+    /// Finds of the answers that are left at the end whether the record lacks them, or whether they
+    /// are unexpected.
     ///
     /// # Errors
     ///
-    /// Returns an error if writing fails or memory runs out.
-    pub fn finish<W: Write + Drop>(&mut self, teller: &mut Teller<'_, W>) -> io::Result<()> {
-        self.dialog.finish(&mut self.findings)?;
-        self.tell(teller)
+    /// Returns `AllocError` if memory runs out.
+    pub fn finish(&mut self, findings: &mut Vec<Finding>) -> Result<(), AllocError>
+        ensures found { OnOk result (findings.new.items ≡ findings.old.items ++ left_over
+            (seen self.old.dialog.matching).open_ids (seen self.old.dialog.matching).early) }
+        ensures others { self.new ≡ record self.old { dialog = self.new.dialog } }
+    {
+        self.dialog.finish(findings)
     }
 }

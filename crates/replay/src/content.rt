@@ -3,10 +3,12 @@
 ghost use Rattle.std.specs.Prelude.{◌≡◌, ◌↔◌, ◌≤◌, IfOk, IsTrue, List, ℕ, drop, false, length, map};
 ghost use Rattle.bson_elem.specs.{Tree};
 ghost use Rattle.bson_raw.specs.{DocumentSplit};
+ghost use Rattle.wire_frames.specs.{frame_bytes};
 ghost use Rattle.wire_msg.specs.{Carries, DocumentsAre, IsMessage, Message, Sequence, SpellsMsg};
 ghost use Rattle.wire_msg.specs.{Content as Carried, msg_bytes};
 ghost use Rattle.replay.specs.Held.{IsMessageOf, IsNoMessage, IsNoReply, IsOtherOf, IsReply};
 ghost use Rattle.replay.specs.Held.{IsReplyOf};
+ghost use Rattle.replay.specs.Plain.{plain_bytes, with_length, with_no_flag, without_checksum};
 ghost use Rattle.replay.specs.Same.{AreSameDocuments, AreSameMessages, IsSameSequence, OneByOne};
 
 use crate::flags::{CHECKSUM_PRESENT, FLAGS, has_flag};
@@ -31,17 +33,33 @@ const REPLY: [u8; 4] = [1, 0, 0, 0];
 /// The offset of the documents of an OP_REPLY.
 const REPLIES: usize = 36;
 
-/// Turns the bytes of a message with a checksum into those of the same one without.
-fn remove_checksum(bytes: &mut Vec<u8>) {
-    let len = bytes.len().saturating_sub(CHECKSUM);
-    bytes.truncate(len);
+/// Writes the number of bytes as the messageLength of a message.
+fn set_length(bytes: &mut Vec<u8>, len: usize)
+    ensures { bytes.new.items ≡ with_length len bytes.old.items }
+{
     let [a, b, c, d, ..] = len.to_le_bytes();
     if let Some(length) = bytes.first_chunk_mut::<4>() {
         *length = [a, b, c, d];
     }
-    if let Some(flags) = bytes.get_mut(FLAGS) {
-        *flags &= !CHECKSUM_PRESENT;
+}
+
+/// Clears the flag checksumPresent of a message.
+fn clear_flag(bytes: &mut Vec<u8>)
+    ensures { bytes.new.items ≡ with_no_flag bytes.old.items }
+{
+    if FLAGS < bytes.len() {
+        bytes[FLAGS] &= !CHECKSUM_PRESENT;
     }
+}
+
+/// Turns the bytes of a message with a checksum into those of the same one without.
+fn remove_checksum(bytes: &mut Vec<u8>)
+    ensures { bytes.new.items ≡ without_checksum bytes.old.items }
+{
+    let len = bytes.len().saturating_sub(CHECKSUM);
+    bytes.truncate(len);
+    set_length(bytes, len);
+    clear_flag(bytes);
 }
 
 /// Returns the bytes of a message, without the checksum if it has one.
@@ -49,7 +67,9 @@ fn remove_checksum(bytes: &mut Vec<u8>) {
 /// # Errors
 ///
 /// Returns `AllocError` if memory runs out.
-pub fn plain_bytes(alloc: Global, frame: RawFrame<'_>) -> Result<Vec<u8>, AllocError> {
+pub fn plain_bytes(alloc: Global, frame: RawFrame<'_>) -> Result<Vec<u8>, AllocError>
+    ensures { IfOk result (λ plain. plain.items ≡ plain_bytes (frame_bytes frame.entry)) }
+{
     let mut bytes = Vec::from_slice(alloc, frame.as_bytes())?;
     if has_flag(frame, CHECKSUM_PRESENT) {
         remove_checksum(&mut bytes);

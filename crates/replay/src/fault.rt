@@ -1,5 +1,8 @@
 //! Why a replay ends early.
 
+ghost use Rattle.std.specs.Prelude.{◌≡◌};
+ghost use Rattle.replay.specs.Faults.{error_of};
+
 use std::alloc::AllocError;
 use std::{fmt, io};
 
@@ -16,7 +19,9 @@ pub enum ReplayFault {
 
 impl ReplayFault {
     /// Returns the error of the call that failed.
-    pub fn error(&self) -> &io::Error {
+    pub fn error(&self) -> &io::Error
+        ensures { result.now ≡ error_of self.now }
+    {
         match self {
             ReplayFault::Records(error) | ReplayFault::Address(error) | ReplayFault::Io(error) => {
                 error
@@ -38,13 +43,26 @@ impl fmt::Display for ReplayFault {
 }
 
 impl From<AllocError> for ReplayFault {
-    fn from(error: AllocError) -> ReplayFault {
+    ghost use Rattle.replay.specs.Faults.{IsOutOfMemory};
+
+    ghost from_gives = { λ _ fault. IsOutOfMemory fault };
+
+    fn from(error: AllocError) -> ReplayFault
+        ensures { IsOutOfMemory result }
+    {
         ReplayFault::Io(io::Error::from(error))
     }
 }
 
 impl From<io::Error> for ReplayFault {
-    fn from(error: io::Error) -> ReplayFault {
+    ghost use Rattle.std.specs.Prelude.{◌≡◌};
+    ghost use Rattle.replay.specs.declared.fault.ReplayFault.TheVariants.{Io};
+
+    ghost from_gives = { λ error fault. fault ≡ Io error };
+
+    fn from(error: io::Error) -> ReplayFault
+        ensures { result ≡ ReplayFault.Io error }
+    {
         ReplayFault::Io(error)
     }
 }

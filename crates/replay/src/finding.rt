@@ -1,8 +1,10 @@
 //! What is found of answers.
 
 use crate::answers::Answer;
+use crate::channel::Broken;
 
-/// What is found of one recorded answer, of one that the server gave, or of both.
+/// What is found of one recorded answer, of one that the server gave, or of both; or of a connection
+/// to the server.
 #[derive(Drop)]
 pub enum Finding {
     /// The answer of the server came in the place of the recorded one, with which it is compared.
@@ -15,4 +17,6 @@ pub enum Finding {
     Unexpected(Answer),
     /// The record lacks the answer to the request of this one.
     Unrecorded(Answer),
+    /// Nothing more goes over the connection, for this reason.
+    Failed(Broken),
 }

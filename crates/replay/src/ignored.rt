@@ -1,10 +1,11 @@
 //! Compares documents without the fields that are ignored.
 
-ghost use Rattle.std.specs.Prelude.{◌≡◌, ◌↔◌, ◌<◌, [], IfOk, IsTrue, MatchOption, OnOk, OnSome};
-ghost use Rattle.std.specs.Prelude.{false, map, string_bytes, true};
+ghost use Rattle.std.specs.Prelude.{◌≡◌, ◌↔◌, ◌<◌, [], IfOk, IfSome, IsTrue, MatchOption};
+ghost use Rattle.std.specs.Prelude.{OnOk, OnSome, false, map, string_bytes, true};
 ghost use Rattle.bson_elem.specs.{Spells, Tree};
 ghost use Rattle.bson_raw.specs.{document_bytes, is_among};
 ghost use Rattle.bson_doc.specs.{plain, put, tree_of, value_of};
+ghost use Rattle.bson_doc.specs.RawDocumentBuf.{buf_bytes};
 ghost use Rattle.replay.specs.Stripped.{AreSame, has_own_names, stripped, stripped_value};
 
 use bson_doc::{Array, Bson, DocRefusal, Document, RawDocumentBuf, laws};
@@ -194,7 +195,10 @@ pub fn are_same(
 }
 
 /// Returns the bytes of a document, or `None` if it can't be written.
-fn written(document: &Document) -> Result<Option<RawDocumentBuf>, AllocError> {
+fn written(document: &Document) -> Result<Option<RawDocumentBuf>, AllocError>
+    ensures { IfOk result (λ read. IfSome read
+        (λ bytes. Spells (tree_of document.now) (buf_bytes bytes))) }
+{
     match document.to_raw() {
         Ok(bytes) => Ok(Some(bytes)),
         Err(DocRefusal::OutOfMemory) => Err(AllocError),

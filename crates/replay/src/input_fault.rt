@@ -16,6 +16,10 @@ pub enum InputFault {
 
 /// Displays the line of the fault.
 impl fmt::Display for InputFault {
+    ghost use Rattle.replay.specs.LastLines.{shown_input_fault};
+
+    ghost output = { shown_input_fault };
+
     fn fmt<W: fmt::Write>(&self, f: &mut fmt::Formatter<W>) -> fmt::Result {
         match *self {
             InputFault::Signature => f.write_str("fault 19 Signature at 0"),

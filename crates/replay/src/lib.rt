@@ -6,8 +6,11 @@
 //! on each connection the answer to the same request, and of several the one at the same index. All
 //! connections are served in one thread.
 //!
+//! A connection finds what its answers are and what it is given to send, and writes nothing: what
+//! it found is told and counted once it is done.
+//!
 //! Uses wire_frames, wire_stream, bson_doc, bson_json and sockets. Used by bsonproxy. Read first:
-//! `specs/Matchings.antt`, `matching`, `pace`, `ignored`, and then `conn` and `player`.
+//! `specs/Matchings.antt`, `matching`, `pace`, `ignored`, and then `conn`, `lanes` and `player`.
 #![tactic(auto)]
 
 mod answers;
@@ -22,6 +25,7 @@ mod flags;
 mod follows;
 mod ignored;
 mod input_fault;
+mod lanes;
 pub mod laws;
 mod matching;
 mod options;
@@ -33,6 +37,7 @@ mod replaying;
 mod requests;
 mod tally;
 mod teller;
+mod waiting;
 mod watch;
 
 pub use fault::ReplayFault;

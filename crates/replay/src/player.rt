@@ -1,7 +1,15 @@
 //! Plays records to a server.
 
+ghost use Rattle.std.specs.Prelude.{◌≡◌, ◌≢◌, [], IfOk, OnOk, length, option_map};
+ghost use Rattle.std.specs.Duration.{as_nanos};
+ghost use Rattle.replay.specs.Counts.{HasTold};
+ghost use Rattle.replay.specs.Lanes.{AddsConn, place_of};
+ghost use Rattle.replay.specs.Matchings.{nothing, seen};
+ghost use Rattle.replay.specs.Watches.{IsRead, timeout_nanos};
+
 use crate::channel::{Broken, Channel};
 use crate::conn::Conn;
+use crate::lanes::Lanes;
 use crate::pace::{Taken, earlier};
 use crate::teller::Teller;
 use crate::watch::Watch;
@@ -14,6 +22,7 @@ use std::io::Write;
 use std::net::{Net, SocketAddr};
 use std::time::{Clock, Duration};
 use wire_frames::{Direction, RawRecord};
+use wire_stream::TcpLink;
 
 /// The connections of the record, and the server to which they go.
 #[derive(Drop)]
@@ -22,7 +31,21 @@ pub struct Player {
     poll: Poll,
     server: SocketAddr,
     watch: Watch,
-    conns: Vec<Conn>,
+    lanes: Lanes<TcpLink<TcpStream>>,
+}
+
+/// Returns for how long events are waited for from now on: up to the moment `due`, if there is one;
+/// not at all if more may be there.
+fn timeout(has_more: bool, due: Option<u64>, now: u64) -> Option<Duration>
+    ensures { option_map as_nanos result ≡ timeout_nanos has_more due now }
+{
+    if has_more {
+        return Some(Duration::from_micros(0));
+    }
+    match due {
+        Some(due) => Some(Duration::from_micros(due.saturating_sub(now))),
+        None => None,
+    }
 }
 
 impl Player {
@@ -36,14 +59,23 @@ impl Player {
         alloc: Global,
         server: SocketAddr,
         watch: Watch,
-    ) -> io::Result<Player> {
+    ) -> io::Result<Player>
+        ensures { IfOk result (λ player. player.lanes.conns.items ≡ []) }
+    {
         Ok(Player {
             alloc,
             poll: Poll::new(net)?,
             server,
             watch,
-            conns: Vec::new(alloc),
+            lanes: Lanes::new(alloc),
         })
+    }
+
+    /// Returns the connections.
+    pub fn lanes(&self) -> &Lanes<TcpLink<TcpStream>>
+        ensures { result.now ≡ self.now.lanes }
+    {
+        &self.lanes
     }
 
     /// Connects to the server, under this token.
@@ -54,31 +86,37 @@ impl Player {
     }
 
     /// Connects to the server for one more connection of the record.
-    fn open(&mut self, net: &impl Net, number: u64) -> Result<(), AllocError> {
-        let conn = match self.connect(net, self.conns.len()) {
-            Ok(stream) => Conn::over(self.alloc, number, Channel::new(self.alloc, stream)?),
+    fn open(&self, net: &impl Net, number: u64) -> Result<Conn<TcpLink<TcpStream>>, AllocError>
+        ensures { IfOk result (λ conn. (conn.number ≡ number)
+            × (seen conn.dialog.matching ≡ nothing)) }
+    {
+        match self.connect(net, self.lanes.len()) {
+            Ok(stream) => {
+                let channel = Channel::new(self.alloc, TcpLink::new(stream))?;
+                Ok(Conn::over(self.alloc, number, channel))
+            }
             Err(error) => {
                 let broken = Broken::Connecting(IoFailure::of(&error));
-                Conn::lost(self.alloc, number, broken)
+                Ok(Conn::lost(self.alloc, number, broken))
             }
-        };
-        self.conns.push(conn)?;
-        Ok(())
-    }
-
-    /// Returns the index of the connection of this number, or how many there are if there is none.
-    fn place_of(&self, number: u64) -> usize {
-        match self.conns.iter().position(|conn| conn.number() == number) {
-            Some(i) => i,
-            None => self.conns.len(),
         }
     }
 
     /// Returns the index of the connection of this number, which is made if there is none.
-    fn index_of(&mut self, net: &impl Net, number: u64) -> Result<usize, AllocError> {
-        let i = self.place_of(number);
-        if i == self.conns.len() {
-            self.open(net, number)?;
+    fn index_of(&mut self, net: &impl Net, number: u64) -> Result<usize, AllocError>
+        ensures place { IfOk result (λ i. i ≡ place_of number self.old.lanes.conns.items) }
+        ensures there { place_of number self.old.lanes.conns.items
+            ≢ length self.old.lanes.conns.items
+            → OnOk result (self.new.lanes.conns.items ≡ self.old.lanes.conns.items) }
+        ensures made { place_of number self.old.lanes.conns.items
+            ≡ length self.old.lanes.conns.items
+            → OnOk result (AddsConn number self.old.lanes.conns.items
+            self.new.lanes.conns.items) }
+    {
+        let i = self.lanes.place_of(number);
+        if i == self.lanes.len() {
+            let conn = self.open(net, number)?;
+            self.lanes.add(conn)?;
         }
         Ok(i)
     }
@@ -94,47 +132,52 @@ impl Player {
         record: RawRecord<'_>,
         taken: Taken,
         teller: &mut Teller<'_, W>,
-    ) -> io::Result<()> {
-        let head = record.head();
-        let i = self.index_of(net, head.connection)?;
-        let Some(conn) = self.conns.get_mut(i) else {
-            return Ok(());
-        };
-        match head.direction {
-            Direction::ToServer => conn.send(record.frame(), taken, teller),
-            Direction::FromServer => conn.expect(record.frame(), taken, teller),
+    ) -> io::Result<()>
+        ensures { OnOk result (HasTold teller.old.tally teller.new.tally) }
+    {
+        let i = self.index_of(net, record.head().connection)?;
+        match record.head().direction {
+            Direction::ToServer => self.lanes.send(i, record.frame(), taken, teller),
+            Direction::FromServer => self.lanes.expect(i, record.frame(), taken, teller),
         }
     }
 
-    /// Returns true if recorded answers are awaited.
-    pub fn awaits(&self) -> bool {
-        self.conns.iter().any(|conn| conn.awaits())
+    /// Waits for events, but not beyond the moment `until`, if there is one, and no longer than for
+    /// an answer; not at all if more may be there. Returns the moment behind that.
+    fn wait<R: Net + Clock>(
+        &mut self,
+        rt: &R,
+        events: &mut Events<Global>,
+        until: Option<u64>,
+    ) -> io::Result<u64>
+        ensures now { IfOk result (λ now. IsRead self.old.watch.begun now) }
+        ensures others { (self.new.lanes ≡ self.old.lanes) × (self.new.watch ≡ self.old.watch) }
+    {
+        let due = earlier(until, self.lanes.least_due());
+        let timeout = timeout(self.lanes.has_more(), due, self.watch.now(rt)?);
+        sockets::wait(&mut self.poll, events, timeout)?;
+        self.watch.now(rt)
     }
 
-    /// Returns true if all requests were sent.
-    pub fn is_sent(&self) -> bool {
-        self.conns.iter().all(|conn| conn.is_sent())
-    }
-
-    /// Returns the first moment up to which an answer is awaited, or bytes have to be sent.
-    fn least_due(&self) -> Option<u64> {
-        let mut least = None;
-        for conn in &self.conns {
-            least = earlier(least, conn.least_due());
+    /// Has each connection take a turn of which these events are. Returns how many events there are.
+    #[tactic(auto, using(crate::proofs::Counting::told_none, crate::proofs::Counting::told_both))]
+    fn turn_told<W: Write + Drop>(
+        &mut self,
+        now: u64,
+        events: &Events<Global>,
+        teller: &mut Teller<'_, W>,
+    ) -> io::Result<usize>
+        ensures { OnOk result (HasTold teller.old.tally teller.new.tally) }
+    {
+        let mut left = events.iter();
+        for told in 0..usize::MAX {
+            let Some(event) = left.next() else {
+                return Ok(told);
+            };
+            let Token(token) = event.token();
+            self.lanes.turn(token, now, teller)?;
         }
-        least
-    }
-
-    /// Returns how long events are waited for: up to the moment `until`, if there is one, and no
-    /// longer than for an answer; not at all if more may be there.
-    fn timeout(&self, clock: &impl Clock, until: Option<u64>) -> io::Result<Option<Duration>> {
-        if self.conns.iter().any(|conn| conn.has_more()) {
-            return Ok(Some(Duration::from_millis(0)));
-        }
-        match earlier(until, self.least_due()) {
-            Some(due) => Ok(Some(self.watch.until(clock, due)?)),
-            None => Ok(None),
-        }
+        Ok(usize::MAX)
     }
 
     /// Tells which answers are missing by now.
@@ -142,44 +185,11 @@ impl Player {
         &mut self,
         clock: &impl Clock,
         teller: &mut Teller<'_, W>,
-    ) -> io::Result<()> {
+    ) -> io::Result<()>
+        ensures { OnOk result (HasTold teller.old.tally teller.new.tally) }
+    {
         let now = self.watch.now(clock)?;
-        for conn in self.conns.iter_mut() {
-            conn.expire(now, teller)?;
-        }
-        Ok(())
-    }
-
-    /// Has each connection take a turn of which these events are. Returns how many events there are.
-    fn turn_told<W: Write + Drop>(
-        &mut self,
-        now: u64,
-        events: &Events<Global>,
-        teller: &mut Teller<'_, W>,
-    ) -> io::Result<usize> {
-        let mut told: usize = 0;
-        for event in events.iter() {
-            told = told.saturating_add(1);
-            let Token(token) = event.token();
-            if let Some(conn) = self.conns.get_mut(token) {
-                conn.turn(now, teller)?;
-            }
-        }
-        Ok(told)
-    }
-
-    /// Has each connection take another turn that is to take one at once.
-    fn turn_rest<W: Write + Drop>(
-        &mut self,
-        now: u64,
-        teller: &mut Teller<'_, W>,
-    ) -> io::Result<()> {
-        for conn in self.conns.iter_mut() {
-            if conn.has_more() {
-                conn.turn(now, teller)?;
-            }
-        }
-        Ok(())
+        self.lanes.expire(now, teller)
     }
 
     /// Writes out what was told, and waits for events, but not beyond the moment `until`, if there is
@@ -188,19 +198,20 @@ impl Player {
     /// # Errors
     ///
     /// Returns an error if waiting or writing fails, or memory runs out.
+    #[tactic(auto, using(crate::proofs::Counting::told_none, crate::proofs::Counting::told_both))]
     pub fn turn<R: Net + Clock, W: Write + Drop>(
         &mut self,
         rt: &R,
         events: &mut Events<Global>,
         until: Option<u64>,
         teller: &mut Teller<'_, W>,
-    ) -> io::Result<()> {
+    ) -> io::Result<()>
+        ensures { OnOk result (HasTold teller.old.tally teller.new.tally) }
+    {
         teller.flush()?;
-        let timeout = self.timeout(rt, until)?;
-        sockets::wait(&mut self.poll, events, timeout)?;
-        let now = self.watch.now(rt)?;
+        let now = self.wait(rt, events, until)?;
         let told = self.turn_told(now, events, teller)?;
-        self.turn_rest(now, teller)?;
+        self.lanes.turn_rest(now, teller)?;
         // Where a wait told as many events as it can, answers may be there of which it told none.
         if told < EVENTS {
             self.expire(rt, teller)?;
@@ -213,10 +224,9 @@ impl Player {
     /// # Errors
     ///
     /// Returns an error if writing fails or memory runs out.
-    pub fn finish<W: Write + Drop>(&mut self, teller: &mut Teller<'_, W>) -> io::Result<()> {
-        for conn in self.conns.iter_mut() {
-            conn.finish(teller)?;
-        }
-        Ok(())
+    pub fn finish<W: Write + Drop>(&mut self, teller: &mut Teller<'_, W>) -> io::Result<()>
+        ensures { OnOk result (HasTold teller.old.tally teller.new.tally) }
+    {
+        self.lanes.finish(teller)
     }
 }

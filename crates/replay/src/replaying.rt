@@ -1,7 +1,12 @@
 //! Runs a replay, from the first record to the line of its counts.
 
-ghost use Rattle.std.specs.Prelude.{IfOk};
-ghost use Rattle.replay.specs.Counts.{IsOutcome};
+ghost use Rattle.std.specs.Prelude.{◌≡◌, ◌⊎◌, ◌&&◌, ◌||◌, [], IfOk, None, OnOk, Option, false};
+ghost use Rattle.std.specs.Prelude.{is_none, map, not, option_map, true};
+ghost use Rattle.std.specs.List.{list_any};
+ghost use Rattle.replay.specs.Counts.{HasTold, IsOutcome};
+ghost use Rattle.replay.specs.Lanes.{awaits, waits};
+ghost use Rattle.replay.specs.Names.{names_in};
+ghost use Rattle.replay.specs.declared.input_fault.InputFault.{InputFault};
 
 use crate::fault::ReplayFault;
 use crate::input_fault::InputFault;
@@ -17,7 +22,7 @@ use sockets::{EVENTS, address_of};
 use std::alloc::{AllocError, Global};
 use std::fs::File;
 use std::io;
-use std::io::{BufWriter, Read, Write};
+use std::io::{BufWriter, ErrorKind, Read, Write};
 use std::net::{Net, SocketAddr};
 use std::rt::Files;
 use std::time::Clock;
@@ -50,14 +55,14 @@ fn outcome_of(fault: Option<InputFault>, tally: Tally) -> Outcome
 }
 
 /// Returns the names in a text that has commas between them.
-fn names_of<'a>(alloc: Global, text: Option<&'a str>) -> Result<Vec<&'a str>, AllocError> {
-    let mut names = Vec::new(alloc);
-    if let Some(text) = text {
-        for name in text.split(',') {
-            names.push(name)?;
-        }
+fn names_of<'a>(alloc: Global, text: Option<&'a str>) -> Result<Vec<&'a str>, AllocError>
+    ensures { IfOk result (λ names. map (λ n. n.now) names.items
+        ≡ names_in (option_map (λ t. t.now) text.entry)) }
+{
+    match text {
+        Some(text) => text.split(',').collect(alloc),
+        None => Ok(Vec::new(alloc)),
     }
-    Ok(names)
 }
 
 /// When the records are taken, and whether any is left.
@@ -70,6 +75,23 @@ struct Course {
 }
 
 impl Course {
+    /// Returns true if the next record may be taken once its time has come.
+    fn may_go_on(&self, player: &Player) -> bool
+        ensures { result ≡ (not (list_any waits player.now.lanes.conns.items)
+            && not (is_none self.now.pace.speed && list_any awaits player.now.lanes.conns.items)) }
+    {
+        let lanes = player.lanes();
+        self.pace.may_go_on(lanes.is_sent(), lanes.awaits())
+    }
+
+    /// Returns true if no record is left, all requests were sent, and no answer is awaited.
+    fn is_done(&self, player: &Player) -> bool
+        ensures { result ≡ (self.now.is_over && not (list_any waits player.now.lanes.conns.items)
+            && not (list_any awaits player.now.lanes.conns.items)) }
+    {
+        self.is_over && player.lanes().is_sent() && !player.lanes().awaits()
+    }
+
     /// Takes the record that is held, unless its time hasn't come. Returns that time then.
     fn take_one<R: Net + Clock, F: Read + Drop, W: Write + Drop>(
         &mut self,
@@ -77,7 +99,14 @@ impl Course {
         records: &mut Records<F>,
         player: &mut Player,
         teller: &mut Teller<'_, W>,
-    ) -> io::Result<Option<u64>> {
+    ) -> io::Result<Option<u64>>
+        ensures course { (self.new.is_over ≡ self.old.is_over)
+            × (self.new.watch ≡ self.old.watch) }
+        ensures fault { records.new.fault ≡ records.old.fault }
+        ensures told { OnOk result (HasTold teller.old.tally teller.new.tally) }
+        ensures held { IfOk result (λ due. ((due ≡ None) × (records.new.reading.held ≡ []))
+            ⊎ (records.new ≡ records.old)) }
+    {
         let Some(record) = records.record() else {
             return Ok(None);
         };
@@ -94,7 +123,11 @@ impl Course {
     }
 
     /// Reads on until a record is held. Returns false if there are no more.
-    fn read_one<F: Read + Drop>(&mut self, records: &mut Records<F>) -> Result<bool, ReplayFault> {
+    fn read_one<F: Read + Drop>(&mut self, records: &mut Records<F>) -> Result<bool, ReplayFault>
+        ensures over { IfOk result (λ has_one.
+            self.new.is_over ≡ (self.old.is_over || not has_one)) }
+        ensures others { self.new ≡ record self.old { is_over = self.new.is_over } }
+    {
         match records.read_one() {
             Ok(has_one) => {
                 self.is_over = self.is_over || !has_one;
@@ -106,18 +139,18 @@ impl Course {
 
     /// Takes records, as many as may be taken now. Returns the time of the next one, if that hasn't
     /// come.
+    #[tactic(auto, using(crate::proofs::Counting::told_none, crate::proofs::Counting::told_both))]
     fn take_some<R: Net + Clock, F: Read + Drop, W: Write + Drop>(
         &mut self,
         rt: &R,
         records: &mut Records<F>,
         player: &mut Player,
         teller: &mut Teller<'_, W>,
-    ) -> Result<Option<u64>, ReplayFault> {
+    ) -> Result<Option<u64>, ReplayFault>
+        ensures { OnOk result (HasTold teller.old.tally teller.new.tally) }
+    {
         for _ in 0..u64::MAX {
-            if !self.pace.may_go_on(player.is_sent(), player.awaits()) {
-                break;
-            }
-            if !self.read_one(records)? {
+            if !self.may_go_on(player) || !self.read_one(records)? {
                 break;
             }
             if let Some(due) = self.take_one(rt, records, player, teller)? {
@@ -127,7 +160,9 @@ impl Course {
         Ok(None)
     }
 
-    /// Takes all records, up to the last answer that is awaited.
+    /// Takes all records, up to the last answer that is awaited. Ends well only if no record is left,
+    /// all requests were sent, and no answer is awaited.
+    #[tactic(auto, using(crate::proofs::Counting::told_none, crate::proofs::Counting::told_both))]
     fn play<R: Net + Clock, F: Read + Drop, W: Write + Drop>(
         &mut self,
         rt: &R,
@@ -135,25 +170,33 @@ impl Course {
         records: &mut Records<F>,
         player: &mut Player,
         teller: &mut Teller<'_, W>,
-    ) -> Result<(), ReplayFault> {
+    ) -> Result<(), ReplayFault>
+        ensures done { OnOk result ((self.new.is_over ≡ true)
+            × (list_any waits player.new.lanes.conns.items ≡ false)
+            × (list_any awaits player.new.lanes.conns.items ≡ false)) }
+        ensures told { OnOk result (HasTold teller.old.tally teller.new.tally) }
+    {
         for _ in 0..u64::MAX {
             let until = self.take_some(rt, records, player, teller)?;
-            if self.is_over && player.is_sent() && !player.awaits() {
-                break;
+            if self.is_done(player) {
+                return Ok(());
             }
             player.turn(rt, events, until, teller)?;
         }
-        Ok(())
+        Err(ReplayFault::Io(io::Error::from(ErrorKind::Interrupted)))
     }
 
     /// Takes answers that come in late.
+    #[tactic(auto, using(crate::proofs::Counting::told_none, crate::proofs::Counting::told_both))]
     fn linger<R: Net + Clock, W: Write + Drop>(
         &self,
         rt: &R,
         events: &mut Events<Global>,
         player: &mut Player,
         teller: &mut Teller<'_, W>,
-    ) -> io::Result<()> {
+    ) -> io::Result<()>
+        ensures { OnOk result (HasTold teller.old.tally teller.new.tally) }
+    {
         let end = self.watch.now(rt)?.saturating_add(LINGER);
         for _ in 0..u64::MAX {
             if self.watch.now(rt)? >= end {
@@ -166,6 +209,7 @@ impl Course {
 }
 
 /// Plays the records, and tells what came of it.
+#[tactic(auto, using(crate::proofs::Counting::told_none, crate::proofs::Counting::told_both))]
 fn play_all<R: Net + Clock, F: Read + Drop, W: Write + Drop>(
     rt: &R,
     course: Course,
@@ -174,7 +218,9 @@ fn play_all<R: Net + Clock, F: Read + Drop, W: Write + Drop>(
     player: &mut Player,
     teller: &mut Teller<'_, W>,
 ) -> Result<Outcome, ReplayFault>
-    ensures { IfOk result (λ outcome. IsOutcome records.new.fault teller.new.tally outcome) }
+    ensures told { OnOk result (HasTold teller.old.tally teller.new.tally) }
+    ensures ends { IfOk result (λ outcome.
+        IsOutcome records.new.fault teller.new.tally outcome) }
 {
     let mut course = course;
     course.play(rt, events, records, player, teller)?;
@@ -194,7 +240,9 @@ fn play_records<R: Net + Clock, F: Read + Drop, W: Write + Drop>(
     records: &mut Records<F>,
     teller: &mut Teller<'_, W>,
 ) -> Result<Outcome, ReplayFault>
-    ensures { IfOk result (λ outcome. IsOutcome records.new.fault teller.new.tally outcome) }
+    ensures told { OnOk result (HasTold teller.old.tally teller.new.tally) }
+    ensures ends { IfOk result (λ outcome.
+        IsOutcome records.new.fault teller.new.tally outcome) }
 {
     let watch = Watch::start(rt)?;
     let mut events = Events::with_capacity(alloc, EVENTS)?;
@@ -207,20 +255,21 @@ fn play_records<R: Net + Clock, F: Read + Drop, W: Write + Drop>(
     play_all(rt, course, &mut events, records, &mut player, teller)
 }
 
-/// Plays the records that a reader gives, to the server at an address, without comparing the fields
-/// of these names.
+/// Plays the records that a reader gives, to the server at an address.
 fn play_to<R: Net + Clock, F: Read + Drop, W: Write + Drop>(
     rt: &R,
     alloc: Global,
     server: SocketAddr,
     pace: Pace,
-    names: &[&str],
     reader: F,
-    out: &mut W,
-) -> Result<Outcome, ReplayFault> {
-    let mut teller = Teller::new(alloc, names, out);
+    teller: &mut Teller<'_, W>,
+) -> Result<Outcome, ReplayFault>
+    ensures told { OnOk result (HasTold teller.old.tally teller.new.tally) }
+    ensures ends { IfOk result (λ outcome. (fault : Option InputFault)
+        × IsOutcome fault teller.new.tally outcome) }
+{
     match Records::new(alloc, reader) {
-        Ok(mut records) => play_records(rt, alloc, server, pace, &mut records, &mut teller),
+        Ok(mut records) => play_records(rt, alloc, server, pace, &mut records, teller),
         Err(error) => Err(ReplayFault::Records(error)),
     }
 }
@@ -239,8 +288,9 @@ fn run_over<R: Net + Clock, F: Read + Drop, W: Write + Drop>(
     };
     let names = names_of(alloc, options.ignore)?;
     let pace = Pace::new(options.speed);
-    let mut out = BufWriter::new(alloc, out)?;
-    play_to(rt, alloc, server, pace, names.as_slice(), reader, &mut out)
+    let out = BufWriter::new(alloc, out)?;
+    let mut teller = Teller::new(alloc, names.as_slice(), out);
+    play_to(rt, alloc, server, pace, reader, &mut teller)
 }
 
 /// Sends what the clients of a file of records sent to the server, each connection of the file over

@@ -1,9 +1,12 @@
 //! Counts the answers.
 
-ghost use Rattle.std.specs.Prelude.{◌↔◌, IsTrue};
+ghost use Rattle.std.specs.Prelude.{◌↔◌, IsTrue, OnOk};
+ghost use Rattle.std.specs.Io.KnownBytes.{Appends};
 ghost use Rattle.replay.specs.Counts.{AreAllSame};
+ghost use Rattle.replay.specs.LastLines.{tally_line};
 
-use std::fmt;
+use std::io;
+use std::io::Write;
 
 /// How many answers were the same as the recorded ones, and how many weren't. Each recorded answer
 /// is in one of the first three counts, and each of the server that isn't beside one of those in
@@ -45,10 +48,16 @@ impl Tally {
     {
         self.different == 0 && self.missing == 0 && self.unexpected == 0 && self.failed == 0
     }
-}
 
-impl fmt::Display for Tally {
-    fn fmt<W: fmt::Write>(&self, f: &mut fmt::Formatter<W>) -> fmt::Result {
+    /// Writes the line of the counts.
+    ///
+    /// # Errors
+    ///
+    /// Returns an error if writing fails.
+    pub fn write<W: Write>(self, out: &mut W) -> io::Result<()>
+        ensures { OnOk result
+            (Appends (W.contents out.old) (W.contents out.new) (tally_line self)) }
+    {
         let Tally {
             same,
             different,
@@ -57,12 +66,16 @@ impl fmt::Display for Tally {
             late,
             unrecorded,
             failed: _,
-        } = *self;
+        } = self;
         let answers = same.saturating_add(different).saturating_add(missing);
         write!(
-            f,
-            "{answers} answers, {same} same, {different} different, {missing} missing, \
-             {unexpected} unexpected, {late} late, {unrecorded} unrecorded"
-        )
+            out,
+            "{answers} answers, {same} same, {different} different, {missing} missing, "
+        )?;
+        writeln!(
+            out,
+            "{unexpected} unexpected, {late} late, {unrecorded} unrecorded"
+        )?;
+        Ok(())
     }
 }

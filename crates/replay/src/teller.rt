@@ -1,11 +1,13 @@
 //! Tells which answers differ.
 
-ghost use Rattle.std.specs.Prelude.{◌≡◌, ◌≤◌, ◌⊎◌, List, OnErr, OnOk, drop, length, map, ℕ};
+ghost use Rattle.std.specs.Prelude.{◌≡◌, ◌≤◌, ◌⊎◌, [], List, OnErr, OnOk, drop, length, map, ℕ};
+ghost use Rattle.std.specs.Io.KnownBytes.{Appends};
 ghost use Rattle.bson_elem.specs.{Tree};
 ghost use Rattle.bson_raw.specs.{DocumentSplit};
 ghost use Rattle.wire_msg.specs.{IsMessage, Message, SpellsMsg};
-ghost use Rattle.replay.specs.Counts.{HasCounted, IsCounted, one_more};
+ghost use Rattle.replay.specs.Counts.{AreCounted, HasCounted, IsCounted, one_more};
 ghost use Rattle.replay.specs.Held.{IsReply};
+ghost use Rattle.replay.specs.LastLines.{fault_line, last_lines};
 ghost use Rattle.replay.specs.Same.{AreSameDocuments, AreSameMessages};
 
 use crate::channel::Broken;
@@ -110,7 +112,27 @@ impl<'a, W: Write + Drop> Teller<'a, W> {
                 self.count_unrecorded();
                 Ok(())
             }
+            Finding::Failed(broken) => self.tell_failed(number, *broken),
         }
+    }
+
+    /// Tells what was found on the connection of this number, in order, and counts it. Nothing is
+    /// left of it.
+    ///
+    /// # Errors
+    ///
+    /// Returns an error if writing fails or memory runs out.
+    pub fn tell_all(&mut self, number: u64, findings: &mut Vec<Finding>) -> io::Result<()>
+        ensures counted { OnOk result
+            (AreCounted findings.old.items self.old.tally self.new.tally) }
+        ensures told { OnOk result (findings.new.items ≡ []) }
+        ensures names { self.new.names ≡ self.old.names }
+    {
+        for finding in findings.iter() {
+            self.tell(number, finding)?;
+        }
+        findings.clear();
+        Ok(())
     }
 
     /// Compares the recorded answer to this request with the one that came, on the connection of
@@ -277,14 +299,26 @@ impl<'a, W: Write + Drop> Teller<'a, W> {
     ///
     /// Returns an error if writing fails.
     pub fn finish(&mut self, fault: Option<InputFault>) -> io::Result<()>
+        ensures lines { OnOk result (Appends (W.contents self.old.out) (W.contents self.new.out)
+            (last_lines self.old.tally fault)) }
         ensures kept { self.new.tally ≡ self.old.tally }
         ensures names { self.new.names ≡ self.old.names }
     {
-        let tally = self.tally;
-        writeln!(self.out, "{tally}")?;
-        if let Some(fault) = fault {
-            writeln!(self.out, "{fault}")?;
-        }
+        self.tally.write(&mut self.out)?;
+        self.write_fault(fault)?;
         self.out.flush()
+    }
+
+    /// Writes the line of a fault of the file, if there is one.
+    fn write_fault(&mut self, fault: Option<InputFault>) -> io::Result<()>
+        ensures line { OnOk result (Appends (W.contents self.old.out) (W.contents self.new.out)
+            (fault_line fault)) }
+        ensures kept { self.new.tally ≡ self.old.tally }
+        ensures names { self.new.names ≡ self.old.names }
+    {
+        match fault {
+            Some(fault) => writeln!(self.out, "{fault}"),
+            None => Ok(()),
+        }
     }
 }

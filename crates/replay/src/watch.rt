@@ -1,7 +1,11 @@
 //! How long a replay has run.
 
+ghost use Rattle.std.specs.Prelude.{IfOk};
+ghost use Rattle.std.specs.Time.{FitsClock, instant_nanos};
+ghost use Rattle.replay.specs.Watches.{IsRead};
+
 use std::io;
-use std::time::{Clock, Duration, Instant};
+use std::time::{Clock, Instant};
 
 /// The moment at which a replay began.
 #[derive(Clone, Copy)]
@@ -15,7 +19,9 @@ impl Watch {
     /// # Errors
     ///
     /// Returns an error if the clock can't be read.
-    pub fn start(clock: &impl Clock) -> io::Result<Watch> {
+    pub fn start(clock: &impl Clock) -> io::Result<Watch>
+        ensures { IfOk result (λ watch. FitsClock (instant_nanos watch.begun)) }
+    {
         Ok(Watch {
             begun: Instant::now(clock)?,
         })
@@ -26,17 +32,10 @@ impl Watch {
     /// # Errors
     ///
     /// Returns an error if the clock can't be read.
-    pub fn now(self, clock: &impl Clock) -> io::Result<u64> {
+    pub fn now(self, clock: &impl Clock) -> io::Result<u64>
+        ensures { IfOk result (λ micros. IsRead self.begun micros) }
+    {
         let gone = Instant::now(clock)?.saturating_duration_since(self.begun);
         Ok(u64::try_from(gone.as_micros()).unwrap_or(u64::MAX))
-    }
-
-    /// Returns how long it is to a moment, in microseconds since the start.
-    ///
-    /// # Errors
-    ///
-    /// Returns an error if the clock can't be read.
-    pub fn until(self, clock: &impl Clock, moment: u64) -> io::Result<Duration> {
-        Ok(Duration::from_micros(moment.saturating_sub(self.now(clock)?)))
     }
 }

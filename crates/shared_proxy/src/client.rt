@@ -1,5 +1,17 @@
 //! The connection of a client, and its steps.
 
+#![tactic(auto, using(crate::proofs::Runs::run_on, crate::proofs::Runs::run_none))]
+
+ghost use Rattle.std.specs.Prelude.{◌≡◌, ◌≢◌, ℕ, [], IfOk, Ok, OnErr, OnOk, None, Some, drop};
+ghost use Rattle.std.specs.Prelude.{false, is_some, take, true};
+ghost use Rattle.wire_share.specs.Acts.{Ends, MovesDown, Sends};
+ghost use Rattle.wire_share.specs.Cores.{CoreDoes, Shares};
+ghost use Rattle.wire_share.specs.Running.{IsRun, seen};
+ghost use Rattle.wire_share.specs.declared.client.Client as connections;
+ghost use Rattle.shared_proxy.specs.Clients.{IsFree, IsNew, IsUnsteered, SameButReply};
+ghost use Rattle.shared_proxy.specs.Clients.{SameButWatches, SameRequest};
+ghost use Rattle.shared_proxy.specs.Lines.{after_bytes};
+
 use crate::leave::Leave;
 use crate::line::{Line, Step};
 use proxy::{Sink, Watches};
@@ -28,7 +40,9 @@ pub struct Steering {
 
 impl Steering {
     /// Returns what is said where a script says nothing. It takes no memory.
-    fn new(alloc: Global) -> Steering {
+    fn new(alloc: Global) -> Steering
+        ensures { IsUnsteered result }
+    {
         Steering {
             flow: Flow::Whole,
             cut_up: None,
@@ -50,7 +64,9 @@ pub struct Client {
 }
 
 /// Notes that the first `n` of these bytes were sent, if messages are shown or recorded.
-fn see_back(watches: &mut Option<Watches>, bytes: &[u8], n: usize) {
+fn see_back(watches: &mut Option<Watches>, bytes: &[u8], n: usize)
+    ensures { is_some watches.new ≡ is_some watches.old }
+{
     if let Some(watches) = watches
         && let Some(sent) = bytes.get(..n)
     {
@@ -60,7 +76,11 @@ fn see_back(watches: &mut Option<Watches>, bytes: &[u8], n: usize) {
 
 /// Returns what a step of a client comes to where nothing is to be sent, and `None` if it is to
 /// receive. One whose own connection to the server is lost, and that asks for nothing, is over.
-fn standing(core: &Core, number: u64) -> Option<Step> {
+fn standing(core: &Core, number: u64) -> Option<Step>
+    ensures gone { (seen core.now).downs number ≡ None → result ≡ Some (Step.Over Leave.Ended) }
+    ensures ready { result ≡ Some Step.Ready → IsFree core.now number }
+    ensures receives { result ≡ None → IsFree core.now number }
+{
     let Some(client) = core.client(number) else {
         return Some(Step::Over(Leave::Ended));
     };
@@ -82,17 +102,22 @@ fn standing(core: &Core, number: u64) -> Option<Step> {
 impl Client {
     /// Makes the client of the connection of this number, whose messages are shown or recorded if
     /// `watched` is true. It takes no memory.
-    pub fn new(alloc: Global, number: u64, line: Line, watched: bool) -> Client {
+    pub fn new(alloc: Global, number: u64, line: Line, watched: bool) -> Client
+        ensures { IsNew line watched result }
+    {
         Client {
             line,
             waits_at: None,
             steering: Steering::new(alloc),
-            watches: watched.then_some(Watches::new(alloc, number)),
+            watches: Watches::if_wanted(alloc, number, watched),
         }
     }
 
     /// Notes the bytes that came and weren't taken yet, if messages are shown or recorded.
-    fn see_there(&mut self) {
+    fn see_there(&mut self)
+        ensures same { SameButWatches self.old self.new }
+        ensures watched { is_some self.new.watches ≡ is_some self.old.watches }
+    {
         if let Some(watches) = &mut self.watches {
             watches.there.see(self.line.bytes());
         }
@@ -108,7 +133,10 @@ impl Client {
         &mut self,
         sink: &mut Sink<'_, R>,
         out: &mut W,
-    ) -> io::Result<()> {
+    ) -> io::Result<()>
+        ensures same { SameButWatches self.old self.new }
+        ensures watched { is_some self.new.watches ≡ is_some self.old.watches }
+    {
         match &mut self.watches {
             Some(watches) => watches.show(sink, out),
             None => Ok(()),
@@ -116,7 +144,15 @@ impl Client {
     }
 
     /// Sends some of what the core has to send to the client.
-    fn send(&mut self, core: &mut Core, number: u64) -> Step {
+    fn send(&mut self, core: &mut Core, number: u64) -> Step
+        ensures run { IsRun core.old core.new }
+        ensures sent { (x : connections.Client) → (seen core.old).downs number ≡ Some x
+            → result ≡ Step.Again → (n : ℕ) × CoreDoes (Shares (MovesDown number (Sends
+            (take n x.downstream.conn.output)))) (seen core.old) (seen core.new)
+            × (self.new.line.sending ≡ after_bytes n self.old.line.sending) }
+        ensures others { result ≢ Step.Again → core.new ≡ core.old }
+        ensures request { SameRequest self.old self.new }
+    {
         match self.line.send(core.output(number)) {
             Ok(Moved::Bytes(n)) => {
                 see_back(&mut self.watches, core.output(number), n);
@@ -129,7 +165,13 @@ impl Client {
     }
 
     /// Sends some of the script's reply.
-    fn send_reply(&mut self) -> Step {
+    fn send_reply(&mut self) -> Step
+        ensures sent { result ≡ Step.Again → (n : ℕ)
+            × (self.new.steering.reply.items ≡ drop n self.old.steering.reply.items)
+            × (self.new.line.sending ≡ after_bytes n self.old.line.sending) }
+        ensures others { result ≢ Step.Again → self.new.steering ≡ self.old.steering }
+        ensures same { SameButReply self.old self.new }
+    {
         match self.line.send(&self.steering.reply) {
             Ok(Moved::Bytes(n)) => {
                 see_back(&mut self.watches, &self.steering.reply, n);
@@ -142,7 +184,16 @@ impl Client {
     }
 
     /// Receives bytes, or tells the core that no more come.
-    fn pull(&mut self, core: &mut Core, number: u64) -> Step {
+    fn pull(&mut self, core: &mut Core, number: u64) -> Step
+        ensures run { IsRun core.old core.new }
+        ensures ended { (x : connections.Client) → (seen core.old).downs number ≡ Some x
+            → result ≡ Step.Again → self.new.line.inlet ≡ [] → self.new.line.link.held.again ≡ false
+            → CoreDoes (Shares (MovesDown number Ends)) (seen core.old) (seen core.new) }
+        ensures others { result ≢ Step.Again → core.new ≡ core.old }
+        ensures delayed { self.old.steering.delayed ≡ true → result ≢ Step.Held }
+        ensures request { SameRequest self.old self.new }
+        ensures sending { self.new.line.sending ≡ self.old.line.sending }
+    {
         match self.line.pull() {
             Ok(Pulled::Bytes) => {
                 self.see_there();
@@ -159,7 +210,11 @@ impl Client {
     }
 
     /// Has the core take bytes that came, or receives some.
-    fn receive(&mut self, core: &mut Core, number: u64) -> Result<Step, AllocError> {
+    fn receive(&mut self, core: &mut Core, number: u64) -> Result<Step, AllocError>
+        ensures run { IsRun core.old core.new }
+        ensures request { SameRequest self.old self.new }
+        ensures sending { self.new.line.sending ≡ self.old.line.sending }
+    {
         if self.line.bytes().is_empty() {
             return Ok(self.pull(core, number));
         }
@@ -178,7 +233,10 @@ impl Client {
     /// # Errors
     ///
     /// Returns `AllocError` if memory runs out.
-    pub fn step(&mut self, core: &mut Core, number: u64) -> Result<Step, AllocError> {
+    pub fn step(&mut self, core: &mut Core, number: u64) -> Result<Step, AllocError>
+        ensures run { IsRun core.old core.new }
+        ensures same { SameButReply self.old self.new }
+    {
         if let Some(leave) = self.line.cut() {
             return Ok(Step::Over(leave));
         }

@@ -1,9 +1,13 @@
 //! Accepts clients, and connects to the server.
 
-use crate::due::Side;
+ghost use Rattle.std.specs.Prelude.{◌≡◌, ◌↔◌, IfOk, IfSome, IsTrue, None, Ok, false};
+ghost use Rattle.sockets.specs.{IsReady};
+ghost use Rattle.shared_proxy.specs.Connecting.{IsAccepted, IsBegun, SameServer, SameWanted};
+
 use crate::line::Line;
+use crate::side::Side;
+use mio::Events;
 use mio::net::TcpStream;
-use mio::{Events, Registry};
 use proxy::{Socket, drawn_cut};
 use sockets::{Acceptor, IoFailure};
 use std::alloc::{AllocError, Global};
@@ -33,7 +37,12 @@ impl Connector {
         upstream: SocketAddr,
         seed: Option<u64>,
         holds: bool,
-    ) -> Connector {
+    ) -> Connector
+        ensures acceptor { result.acceptor ≡ acceptor }
+        ensures upstream { result.upstream ≡ upstream }
+        ensures seed { result.seed ≡ seed }
+        ensures holds { result.holds ≡ holds }
+    {
         Connector {
             alloc,
             acceptor,
@@ -44,17 +53,25 @@ impl Connector {
     }
 
     /// Notes that a client may wait, or that there is room for one again.
-    pub fn resume(&mut self) {
+    pub fn resume(&mut self)
+        ensures ready { IsReady self.new.acceptor }
+        ensures wanted { SameWanted self.old self.new }
+        ensures server { SameServer self.old self.new }
+    {
         self.acceptor.resume();
     }
 
-    /// Returns what registers sockets, so that their events are waited for.
-    pub fn registry(&self) -> &Registry {
-        self.acceptor.registry()
+    /// Returns what accepts connections, and waits for the events of sockets.
+    pub fn acceptor(&self) -> &Acceptor
+        ensures { result.now ≡ self.now.acceptor }
+    {
+        &self.acceptor
     }
 
     /// Returns true if a client may wait.
-    pub fn is_ready(&self) -> bool {
+    pub fn is_ready(&self) -> bool
+        ensures { IsTrue result ↔ IsReady self.now.acceptor }
+    {
         self.acceptor.is_ready()
     }
 
@@ -68,7 +85,10 @@ impl Connector {
         events: &mut Events<Global>,
         has_more: bool,
         least: Option<Duration>,
-    ) -> io::Result<()> {
+    ) -> io::Result<()>
+        ensures wanted { SameWanted self.old self.new }
+        ensures server { SameServer self.old self.new }
+    {
         self.acceptor.wait(events, has_more, least)
     }
 
@@ -77,12 +97,17 @@ impl Connector {
     /// # Errors
     ///
     /// Returns an error if writing fails.
-    pub fn tell_backlog<W: Write>(&mut self, out: &mut W) -> io::Result<()> {
+    pub fn tell_backlog<W: Write>(&mut self, out: &mut W) -> io::Result<()>
+        ensures wanted { SameWanted self.old self.new }
+        ensures server { SameServer self.old self.new }
+    {
         self.acceptor.tell_backlog(out)
     }
 
     /// Makes the line of a client.
-    fn client_line(&self, stream: TcpStream) -> Result<Line, AllocError> {
+    fn client_line(&self, stream: TcpStream) -> Result<Line, AllocError>
+        ensures { IfOk result IsAccepted }
+    {
         let mut line = Line::of_client(self.alloc, Socket::new(self.alloc, stream)?)?;
         if self.holds {
             line.hold(self.alloc)?;
@@ -96,20 +121,24 @@ impl Connector {
     /// # Errors
     ///
     /// Returns `AllocError` if memory runs out.
-    pub fn accept(&mut self, number: u64, has_room: bool) -> Result<Option<Line>, AllocError> {
-        let Some(mut stream) = self.acceptor.accept(has_room) else {
-            return Ok(None);
-        };
+    pub fn accept(&mut self, number: u64, has_room: bool) -> Result<Option<Line>, AllocError>
+        ensures room { has_room ≡ false → result ≡ Ok None }
+        ensures line { IfOk result (λ found. IfSome found IsAccepted) }
+        ensures given { IfOk result (λ found. IfSome found
+            (λ line. self.new.acceptor.returned ≡ None)) }
+        ensures server { SameServer self.old self.new }
+    {
         let token = Side::Client(number).token();
-        if let Err(error) = self.acceptor.register(&mut stream, token) {
-            self.acceptor.take_back(stream, IoFailure::of(&error));
-            return Ok(None);
+        match self.acceptor.accept_under(has_room, token) {
+            Some(stream) => Ok(Some(self.client_line(stream)?)),
+            None => Ok(None),
         }
-        Ok(Some(self.client_line(stream)?))
     }
 
     /// Makes the line of the connection to the server of this number.
-    fn server_line(&self, stream: TcpStream, number: u64) -> Result<Line, AllocError> {
+    fn server_line(&self, stream: TcpStream, number: u64) -> Result<Line, AllocError>
+        ensures { IfOk result (λ line. IsBegun self.now.seed line) }
+    {
         let cut = self.seed.map(|seed| drawn_cut(seed, number));
         Line::of_server(self.alloc, Socket::new(self.alloc, stream)?, cut)
     }
@@ -124,7 +153,9 @@ impl Connector {
         &self,
         net: &impl Net,
         number: u64,
-    ) -> Result<Result<Line, IoFailure>, AllocError> {
+    ) -> Result<Result<Line, IoFailure>, AllocError>
+        ensures { IfOk result (λ made. IfOk made (λ line. IsBegun self.now.seed line)) }
+    {
         let token = Side::Server(number).token();
         match self.acceptor.connect(net, self.upstream, token) {
             Ok(stream) => Ok(Ok(self.server_line(stream, number)?)),

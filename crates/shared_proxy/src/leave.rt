@@ -1,5 +1,9 @@
 //! Why a connection is over.
 
+ghost use Rattle.std.specs.Prelude.{◌≡◌};
+ghost use Rattle.shared_proxy.specs.Leaving.{is_told, leave_of_client, leave_of_state};
+ghost use Rattle.shared_proxy.specs.Leaving.{wants_memory};
+
 use proxy::Direction;
 use sockets::{IoFailure, RelayFault};
 use std::fmt;
@@ -33,7 +37,9 @@ pub enum Leave {
 
 impl Leave {
     /// Returns why the connection of a client is over whose state is this, and `None` if it is open.
-    pub fn of_state(state: ConnState) -> Option<Leave> {
+    pub fn of_state(state: ConnState) -> Option<Leave>
+        ensures { result ≡ leave_of_state state }
+    {
         match state {
             ConnState::Open => None,
             ConnState::Closed(CloseCause::Server(ServerCause::Ended)) => Some(Leave::Ended),
@@ -42,7 +48,9 @@ impl Leave {
     }
 
     /// Returns why a connection to the server is over whose client isn't open, and `None` if it is.
-    pub fn of_client(state: ClientState) -> Option<Leave> {
+    pub fn of_client(state: ClientState) -> Option<Leave>
+        ensures { result ≡ leave_of_client state }
+    {
         match state {
             ClientState::Open => None,
             ClientState::Closed(ClientCause::Ended) => Some(Leave::Ended),
@@ -51,20 +59,26 @@ impl Leave {
     }
 
     /// Returns why a connection is over over which receiving failed.
-    pub fn receiving(fault: LinkFault) -> Leave {
+    pub fn receiving(fault: LinkFault) -> Leave
+        ensures { result ≡ Leave.Failed (RelayFault.Receiving fault) }
+    {
         Leave::Failed(RelayFault::Receiving(fault))
     }
 
     /// Returns why a connection is over over which sending failed.
-    pub fn sending(fault: LinkFault) -> Leave {
+    pub fn sending(fault: LinkFault) -> Leave
+        ensures { result ≡ Leave.Failed (RelayFault.Sending fault) }
+    {
         Leave::Failed(RelayFault::Sending(fault))
     }
 
     /// Returns true if memory ran out.
-    pub fn wants_memory(self) -> bool {
+    pub fn wants_memory(self) -> bool
+        ensures { result ≡ wants_memory self }
+    {
         match self {
             Leave::Failed(RelayFault::Receiving(fault) | RelayFault::Sending(fault)) => {
-                fault.kind == ErrorKind::OutOfMemory
+                matches!(fault.kind, ErrorKind::OutOfMemory)
             }
             Leave::BadClient(CloseCause::NoMemory | CloseCause::Server(ServerCause::NoMemory)) => {
                 true
@@ -75,7 +89,9 @@ impl Leave {
 
     /// Returns true if it is told also where nothing is shown: the proxy ended the connection,
     /// connecting to the server failed at once, or a reply was lost.
-    pub fn is_told(self) -> bool {
+    pub fn is_told(self) -> bool
+        ensures { result ≡ is_told self }
+    {
         matches!(
             self,
             Leave::HungUp(_) | Leave::Cut(..) | Leave::Unconnected(_) | Leave::Lost(_)

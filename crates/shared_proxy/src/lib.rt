@@ -12,13 +12,13 @@
 mod client;
 mod clients;
 mod connector;
-mod due;
 mod leave;
 mod line;
 mod server;
 mod servers;
 mod serving;
 mod sharing;
+mod side;
 mod steering;
 mod turns;
 

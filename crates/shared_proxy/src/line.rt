@@ -1,7 +1,12 @@
 //! A connection, and the bytes that came over it last.
 
-ghost use Rattle.std.specs.Prelude.{◌≤◌, IfOk, length};
+ghost use Rattle.std.specs.Prelude.{◌≡◌, ◌≢◌, ◌≤◌, ◌<◌, [], ℕ, List, IfOk, IfSome, IsSomeAnd, Ok};
+ghost use Rattle.std.specs.Prelude.{drop, false, length, min, not, true};
+ghost use Rattle.proxy.specs.Holding.{HoldMoves, Holds, Passes, Skips, new_view, view_of};
+ghost use Rattle.wire_frames.specs.{frame_bytes};
 ghost use Rattle.wire_stream.specs.{bytes_moved};
+ghost use Rattle.shared_proxy.specs.Lines.{SameButLink, after_send, cut_of, idle_step, left_by};
+ghost use Rattle.shared_proxy.specs.Lines.{limited, new_sending, unseen};
 
 use crate::leave::Leave;
 use proxy::{Cut, Direction, HeldLink, Socket};
@@ -49,7 +54,14 @@ impl Line {
     /// # Errors
     ///
     /// Returns `AllocError` if memory runs out. The connection is closed then.
-    pub fn of_client(alloc: Global, socket: Socket) -> Result<Line, AllocError> {
+    pub fn of_client(alloc: Global, socket: Socket) -> Result<Line, AllocError>
+        ensures sending { IfOk result (λ l. l.sending
+            ≡ new_sending Direction.Back 18446744073709551615) }
+        ensures stands { IfOk result (λ l. l.connecting ≡ false) }
+        ensures empty { IfOk result (λ l. l.inlet ≡ []) }
+        ensures view { IfOk result (λ l. view_of l.link.held
+            ≡ new_view socket 18446744073709551615) }
+    {
         Ok(Line {
             link: HeldLink::new(alloc, socket, u64::MAX),
             connecting: false,
@@ -67,7 +79,14 @@ impl Line {
     /// # Errors
     ///
     /// Returns `AllocError` if memory runs out. The connection is closed then.
-    pub fn of_server(alloc: Global, socket: Socket, cut: Option<Cut>) -> Result<Line, AllocError> {
+    pub fn of_server(alloc: Global, socket: Socket, cut: Option<Cut>) -> Result<Line, AllocError>
+        ensures sending { IfOk result (λ l. l.sending ≡ new_sending Direction.There
+            (left_by cut Direction.There)) }
+        ensures connects { IfOk result (λ l. l.connecting ≡ true) }
+        ensures empty { IfOk result (λ l. l.inlet ≡ []) }
+        ensures view { IfOk result (λ l. view_of l.link.held
+            ≡ new_view socket (left_by cut Direction.Back)) }
+    {
         let (there, back) = match cut {
             Some(cut) => (cut.left(Direction::There), cut.left(Direction::Back)),
             None => (u64::MAX, u64::MAX),
@@ -89,32 +108,51 @@ impl Line {
     /// # Errors
     ///
     /// Returns `AllocError` if memory runs out.
-    pub fn hold(&mut self, alloc: Global) -> Result<(), AllocError> {
+    pub fn hold(&mut self, alloc: Global) -> Result<(), AllocError>
+        ensures view { view_of self.new.link.held ≡ view_of self.old.link.held }
+        ensures same { SameButLink self.old self.new }
+    {
         self.link.hold(alloc)
     }
 
     /// Returns the message that is held, if it wasn't said yet what becomes of it.
-    pub fn message(&self) -> Option<RawFrame<'_>> {
+    pub fn message(&self) -> Option<RawFrame<'_>>
+        ensures held { IfSome result (λ frame. Holds self.now.link.held (frame_bytes frame)) }
+        ensures all { (message : List ℕ) → Holds self.now.link.held message
+            → IsSomeAnd result (λ frame. frame_bytes frame ≡ message) }
+    {
         self.link.message()
     }
 
     /// Gives the message that is held.
-    pub fn pass(&mut self) {
+    pub fn pass(&mut self)
+        ensures passes { (message : List ℕ) → Holds self.old.link.held message → HoldMoves unseen
+            (Passes message) (view_of self.old.link.held) (view_of self.new.link.held) }
+        ensures same { SameButLink self.old self.new }
+    {
         self.link.pass();
     }
 
     /// Lets go of the message that is held.
-    pub fn skip(&mut self) {
+    pub fn skip(&mut self)
+        ensures skips { (message : List ℕ) → Holds self.old.link.held message → HoldMoves unseen
+            (Skips message) (view_of self.old.link.held) (view_of self.new.link.held) }
+        ensures same { SameButLink self.old self.new }
+    {
         self.link.skip();
     }
 
     /// Limits how many more bytes are sent to `left`. Behind them the connection is cut.
-    pub fn limit_sending(&mut self, left: u64) {
+    pub fn limit_sending(&mut self, left: u64)
+        ensures { self.new ≡ limited left self.old }
+    {
         self.sending.left = self.sending.left.min(left);
     }
 
     /// Returns how the connection was cut, if no more may be sent over it.
-    pub fn cut(&self) -> Option<Leave> {
+    pub fn cut(&self) -> Option<Leave>
+        ensures { result ≡ cut_of self.now.sending }
+    {
         if self.sending.left == 0 {
             Some(Leave::Cut(self.sending.direction, self.sending.count))
         } else {
@@ -124,7 +162,13 @@ impl Line {
 
     /// Returns true if the connection stands, and false while it is still being made; or why it can't
     /// be made.
-    fn stands(&mut self) -> Result<bool, Leave> {
+    fn stands(&mut self) -> Result<bool, Leave>
+        ensures stands { IfOk result (λ stands. stands ≡ not self.new.connecting) }
+        ensures once { self.old.connecting ≡ false → (result ≡ Ok true) × (self.new ≡ self.old) }
+        ensures link { self.new.link ≡ self.old.link }
+        ensures inlet { self.new.inlet ≡ self.old.inlet }
+        ensures sending { self.new.sending ≡ self.old.sending }
+    {
         if self.connecting {
             match self.link.link().is_connected() {
                 Ok(connected) => self.connecting = !connected,
@@ -136,7 +180,10 @@ impl Line {
 
     /// Sends bytes from the front of `bytes`, and returns how many, or why the connection is over.
     pub fn send(&mut self, bytes: &[u8]) -> Result<Moved, Leave>
-        ensures { IfOk result (λ moved. bytes_moved moved ≤ length bytes.now) }
+        ensures within { IfOk result (λ moved. bytes_moved moved ≤ length bytes.now) }
+        ensures left { IfOk result (λ moved. bytes_moved moved ≤ self.old.sending.left) }
+        ensures sending { self.new.sending ≡ after_send result self.old.sending }
+        ensures inlet { self.new.inlet ≡ self.old.inlet }
     {
         if !self.stands()? {
             return Ok(Moved::Later);
@@ -154,17 +201,30 @@ impl Line {
     }
 
     /// Returns the bytes that came and were not taken yet.
-    pub fn bytes(&self) -> &[u8] {
+    pub fn bytes(&self) -> &[u8]
+        ensures bytes { result.now ≡ self.now.inlet }
+        ensures within { length result.now ≤ 4096 }
+    {
         self.inlet.bytes()
     }
 
     /// Drops the first `n` of the bytes that came, which were taken.
-    pub fn used(&mut self, n: usize) {
+    pub fn used(&mut self, n: usize)
+        ensures inlet { self.new.inlet ≡ drop (min n (length self.old.inlet)) self.old.inlet }
+        ensures link { self.new.link ≡ self.old.link }
+        ensures connecting { self.new.connecting ≡ self.old.connecting }
+        ensures sending { self.new.sending ≡ self.old.sending }
+    {
         self.inlet.used(n.min(self.inlet.bytes().len()));
     }
 
     /// Receives bytes, if none are there. Returns why the connection is over, if it is.
-    pub fn pull(&mut self) -> Result<Pulled, Leave> {
+    pub fn pull(&mut self) -> Result<Pulled, Leave>
+        ensures bytes { result ≡ Ok Pulled.Bytes → self.new.inlet ≢ [] }
+        ensures end { result ≡ Ok Pulled.End
+            → (self.new.inlet ≡ []) × (0 < self.new.link.held.left) }
+        ensures sending { self.new.sending ≡ self.old.sending }
+    {
         if !self.stands()? {
             return Ok(Pulled::Later);
         }
@@ -179,7 +239,11 @@ impl Line {
     }
 
     /// Returns what a step comes to that received nothing.
-    pub fn idle(&self) -> Step {
+    pub fn idle(&self) -> Step
+        ensures held { (message : List ℕ) → Holds self.now.link.held message → result ≡ Step.Held }
+        ensures whole { result ≡ Step.Held → (message : List ℕ) × Holds self.now.link.held message }
+        ensures others { result ≢ Step.Held → result ≡ idle_step self.now.link.held.again }
+    {
         if self.link.message().is_some() {
             Step::Held
         } else if self.link.has_more() {

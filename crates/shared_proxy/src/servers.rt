@@ -1,5 +1,10 @@
 //! The connections to the server, by their numbers.
 
+ghost use Rattle.std.specs.Prelude.{◌≡◌, ◌⊎◌, ◌≤◌, ◌++◌, ◌∷◌, [], IfSome, IsNone, None, OnOk, Some};
+ghost use Rattle.std.specs.Prelude.{if◌then◌else◌, length, nat_eq, not};
+ghost use Rattle.indexmap.specs.IndexMap.{Updates, get};
+ghost use Rattle.shared_proxy.specs.Queues.{AreGone, IsLeastBusy, load_in, without};
+
 use crate::line::Line;
 use crate::server::{Server, is_full};
 use indexmap::IndexMap;
@@ -21,16 +26,20 @@ struct Shared {
 #[derive(Drop)]
 pub struct Servers {
     alloc: Global,
-    servers: IndexMap<u64, Server>,
+    pub map: IndexMap<u64, Server>,
     shared: Shared,
 }
 
 impl Servers {
     /// Begins without connections. At most `most` of them are shared. It takes no memory.
-    pub fn new(alloc: Global, most: usize) -> Servers {
+    pub fn new(alloc: Global, most: usize) -> Servers
+        ensures none { result.map.entries ≡ [] }
+        ensures shared { result.shared.numbers.items ≡ [] }
+        ensures most { result.shared.most ≡ most }
+    {
         Servers {
             alloc,
-            servers: IndexMap::new(alloc),
+            map: IndexMap::new(alloc),
             shared: Shared {
                 numbers: Vec::new(alloc),
                 most,
@@ -38,15 +47,12 @@ impl Servers {
         }
     }
 
-    /// Returns the connection of this number, if there is one.
-    pub fn get_mut(&mut self, number: u64) -> Option<&mut Server> {
-        self.servers.get_mut(&number)
-    }
-
     /// Returns how busy a connection is: how many calls await a reply over it; or, if it is full or
     /// requests wait for it, more than that, and how many do.
-    fn load(&self, core: &Core, number: u64) -> usize {
-        match self.servers.get(&number) {
+    fn load(&self, core: &Core, number: u64) -> usize
+        ensures { result ≡ load_in self.now core.now number }
+    {
+        match self.map.get(&number) {
             Some(server) if is_full(core, number) || !server.blocked.is_empty() => {
                 FULL.saturating_add(server.blocked.len())
             }
@@ -59,7 +65,12 @@ impl Servers {
     }
 
     /// Returns the shared connection that is the least busy, if there is one.
-    pub fn least_busy(&self, core: &Core) -> Option<u64> {
+    pub fn least_busy(&self, core: &Core) -> Option<u64>
+        ensures least { IfSome result (λ upstream. IsLeastBusy (load_in self.now core.now)
+            self.now.shared.numbers.items upstream) }
+        ensures none { IsNone result
+            → AreGone (load_in self.now core.now) self.now.shared.numbers.items }
+    {
         let mut found = None;
         let mut least = usize::MAX;
         for number in self.shared.numbers.iter() {
@@ -75,7 +86,15 @@ impl Servers {
     /// Returns over which shared connection a request goes: one without calls for which no request
     /// has to wait, else none, which stands for a new one, if there may be one more, and else the
     /// least busy one.
-    pub fn place_shared(&self, core: &Core) -> Option<u64> {
+    pub fn place_shared(&self, core: &Core) -> Option<u64>
+        ensures least { IfSome result (λ upstream. IsLeastBusy (load_in self.now core.now)
+            self.now.shared.numbers.items upstream) }
+        ensures idle { IfSome result (λ upstream.
+            (self.now.shared.most ≤ length self.now.shared.numbers.items)
+            ⊎ (load_in self.now core.now upstream ≡ 0)) }
+        ensures none { IsNone result → self.now.shared.most ≤ length self.now.shared.numbers.items
+            → AreGone (load_in self.now core.now) self.now.shared.numbers.items }
+    {
         let number = self.least_busy(core)?;
         if self.shared.numbers.len() >= self.shared.most || self.load(core, number) == 0 {
             Some(number)
@@ -89,9 +108,17 @@ impl Servers {
     /// # Errors
     ///
     /// Returns `AllocError` if memory runs out.
-    pub fn open(&mut self, number: u64, line: Line, is_shared: bool) -> Result<(), AllocError> {
+    pub fn open(&mut self, number: u64, line: Line, is_shared: bool) -> Result<(), AllocError>
+        ensures there { OnOk result ((s : Server) × (s.line ≡ line) × (s.callers.entries ≡ [])
+            × (s.blocked.items ≡ [])
+            × Updates nat_eq self.old.map self.new.map number (Some s)) }
+        ensures shared { OnOk result (self.new.shared.numbers.items
+            ≡ (if is_shared then self.old.shared.numbers.items ++ number ∷ []
+            else self.old.shared.numbers.items)) }
+        ensures most { self.new.shared.most ≡ self.old.shared.most }
+    {
         let server = Server::new(self.alloc, line);
-        let _ = self.servers.insert(number, server)?;
+        let _ = self.map.insert(number, server)?;
         if is_shared {
             self.shared.numbers.push(number)?;
         }
@@ -99,9 +126,19 @@ impl Servers {
     }
 
     /// Closes a connection, and returns it.
-    pub fn close(&mut self, number: u64) -> Option<Server> {
-        let server = self.servers.swap_remove(&number);
-        self.shared.numbers.retain(|other| *other != number);
+    pub fn close(&mut self, number: u64) -> Option<Server>
+        ensures was { result ≡ get nat_eq self.old.map number }
+        ensures gone { Updates nat_eq self.old.map self.new.map number None }
+        ensures shared { self.new.shared.numbers.items
+            ≡ without number self.old.shared.numbers.items }
+        ensures most { self.new.shared.most ≡ self.old.shared.most }
+    {
+        let server = self.map.swap_remove(&number);
+        self.shared.numbers.retain(
+            |other: &u64| -> bool
+                ensures { result ≡ not (nat_eq other.now number) }
+            { *other != number },
+        );
         server
     }
 }

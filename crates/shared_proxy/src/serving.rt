@@ -1,6 +1,8 @@
 //! Runs a proxy that shares connections, from its first line until enough clients are gone, or
 //! standard input has ended.
 
+ghost use Rattle.std.specs.Prelude.{◌≡◌, Ok};
+
 use crate::connector::Connector;
 use crate::sharing::Sharing;
 use crate::turns::Turns;
@@ -31,7 +33,9 @@ pub fn run<R: Net + Files + Clock + Input, W: Write + Drop>(
     script: Option<Script>,
     most: usize,
     out: W,
-) -> Result<(), ProxyFault> {
+) -> Result<(), ProxyFault>
+    ensures none { options.entry.connections ≡ 0 → result ≡ Ok tt }
+{
     if options.connections == 0 {
         return Ok(());
     }
@@ -41,7 +45,7 @@ pub fn run<R: Net + Files + Clock + Input, W: Write + Drop>(
     let acceptor = Acceptor::new(rt, listener, LISTENER, options.connections)?;
     let holds = script.is_some();
     let connector = Connector::new(alloc, acceptor, upstream, options.seed, holds);
-    let sharing = Sharing::new(alloc, connector, most, options.watching());
+    let sharing = Sharing::new(alloc, connector, most, options.watching())?;
     let mut turns = Turns::new(alloc, sharing, script);
     serve(rt, &mut turns, options, events, sink, &mut out)
 }

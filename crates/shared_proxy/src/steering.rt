@@ -1,5 +1,18 @@
 //! Does with a request what a script says, and with its reply.
 
+#![tactic(auto, using(crate::proofs::Runs::run_on, crate::proofs::Runs::run_none))]
+
+ghost use Rattle.std.specs.Prelude.{◌≡◌, ◌≤◌, ℕ, List, [], IfOk, None, Ok, OnErr, OnOk, Some};
+ghost use Rattle.std.specs.Prelude.{false, length, min, pos, true};
+ghost use Rattle.proxy.specs.Holding.{Holds};
+ghost use Rattle.wire_share.specs.Acts.{MovesDown, Sends};
+ghost use Rattle.wire_share.specs.Cores.{CoreDoes, Shares};
+ghost use Rattle.wire_share.specs.Running.{IsRun, output_to, seen};
+ghost use Rattle.wire_share.specs.declared.client.Client as connections;
+ghost use Rattle.shared_proxy.specs.Clients.{SameRequest};
+ghost use Rattle.shared_proxy.specs.Lines.{limited};
+ghost use Rattle.shared_proxy.specs.Steering.{HoldsNone, PassesSo, SameButFlow};
+
 use crate::client::Client;
 use crate::leave::Leave;
 use proxy::{Direction, Fate, Sink, fate_of};
@@ -30,7 +43,10 @@ fn show<R: Files + Clock, W: Write>(
     client: &Client,
     sink: &mut Sink<'_, R>,
     out: &mut W,
-) -> io::Result<()> {
+) -> io::Result<()>
+    ensures none { HoldsNone client.now.line
+        → (result ≡ Ok tt) × (sink.new ≡ sink.old) × (out.new ≡ out.old) }
+{
     match client.line.message() {
         Some(frame) => sink.put(number, Direction::There, frame, out),
         None => Ok(()),
@@ -38,7 +54,11 @@ fn show<R: Files + Clock, W: Write>(
 }
 
 /// Has a request pass, and notes what becomes of it and of its reply.
-fn pass(client: &mut Client, flow: Flow, cut_up: Option<u64>) {
+fn pass(client: &mut Client, flow: Flow, cut_up: Option<u64>)
+    ensures passes { (message : List ℕ) → Holds client.old.line.link.held message
+        → PassesSo message flow cut_up client.old client.new }
+    ensures delayed { client.new.steering.delayed ≡ client.old.steering.delayed }
+{
     client.steering.flow = flow;
     client.steering.cut_up = cut_up;
     client.line.pass();
@@ -56,35 +76,50 @@ pub fn steer<R: Files + Clock, W: Write>(
     script: &mut Script,
     sink: &mut Sink<'_, R>,
     out: &mut W,
-) -> io::Result<Steered> {
+) -> io::Result<Steered>
+    ensures { HoldsNone client.old.line → (result ≡ Ok Steered.Again)
+        × (client.new ≡ client.old) × (script.new ≡ script.old) }
+{
     let (id, fate) = match client.line.message() {
         Some(frame) => (frame.header().id, fate_of(alloc, script, frame)?),
         None => return Ok(Steered::Again),
     };
     match fate {
-        Fate::Pass(flow) => pass(client, flow, None),
-        Fate::CutUp(count) => pass(client, Flow::Whole, Some(count)),
+        Fate::Pass(flow) => {
+            pass(client, flow, None);
+            Ok(Steered::Again)
+        }
+        Fate::CutUp(count) => {
+            pass(client, Flow::Whole, Some(count));
+            Ok(Steered::Again)
+        }
         Fate::Delay(millis) => {
             writeln!(out, "{number} delay {millis} id {id}")?;
             client.steering.delayed = true;
-            return Ok(Steered::Held(millis));
+            Ok(Steered::Held(millis))
         }
         Fate::HangUp => {
             show(number, client, sink, out)?;
-            return Ok(Steered::Over(Leave::HungUp(id)));
+            Ok(Steered::Over(Leave::HungUp(id)))
         }
         Fate::Reply(bytes) => {
             show(number, client, sink, out)?;
             writeln!(out, "{number} reply to {id}")?;
             client.line.skip();
             client.steering.reply = bytes;
+            Ok(Steered::Again)
         }
     }
-    Ok(Steered::Again)
 }
 
 /// Lets a request go on that was held for some time.
-pub fn release(client: &mut Client) {
+pub fn release(client: &mut Client)
+    ensures released { client.new.steering.delayed ≡ false }
+    ensures passes { (message : List ℕ) → Holds client.old.line.link.held message
+        → client.old.steering.delayed ≡ true
+        → PassesSo message Flow.Whole None client.old client.new }
+    ensures others { client.old.steering.delayed ≡ false → client.new ≡ client.old }
+{
     if client.steering.delayed {
         client.steering.delayed = false;
         pass(client, Flow::Whole, None);
@@ -98,7 +133,10 @@ fn show_reply<R: Files + Clock, W: Write>(
     number: u64,
     sink: &mut Sink<'_, R>,
     out: &mut W,
-) -> io::Result<(usize, i32)> {
+) -> io::Result<(usize, i32)>
+    ensures none { output_to ((seen core.now).downs number) ≡ []
+        → (result ≡ Ok (0, pos 0)) × (sink.new ≡ sink.old) × (out.new ≡ out.old) }
+{
     match RawFrame::front(core.output(number), MAX_MESSAGE_LEN) {
         FrameFront::Whole { frame, .. } => {
             sink.put(number, Direction::Back, frame, out)?;
@@ -114,7 +152,13 @@ fn drop_reply<R: Files + Clock, W: Write>(
     number: u64,
     sink: &mut Sink<'_, R>,
     out: &mut W,
-) -> io::Result<()> {
+) -> io::Result<()>
+    ensures run { IsRun core.old core.new }
+    ensures dropped { (x : connections.Client) → (seen core.old).downs number ≡ Some x
+        → OnOk result (CoreDoes (Shares (MovesDown number (Sends x.downstream.conn.output)))
+        (seen core.old) (seen core.new)) }
+    ensures unchanged { OnErr result (core.new ≡ core.old) }
+{
     let (size, to) = show_reply(core, number, sink, out)?;
     writeln!(out, "{number} drop {size} to {to}")?;
     let all = core.output(number).len();
@@ -130,7 +174,12 @@ fn cut_reply<R: Files + Clock, W: Write>(
     count: u64,
     sink: &mut Sink<'_, R>,
     out: &mut W,
-) -> io::Result<()> {
+) -> io::Result<()>
+    ensures cut { OnOk result (client.new.line ≡ limited
+        (min count (length (output_to ((seen core.now).downs number)))) client.old.line) }
+    ensures unchanged { OnErr result (client.new.line ≡ client.old.line) }
+    ensures request { SameRequest client.old client.new }
+{
     let size = core.output(number).len() as u64;
     if count < size {
         let _ = show_reply(core, number, sink, out)?;
@@ -150,7 +199,20 @@ pub fn steer_reply<R: Files + Clock, W: Write>(
     client: &mut Client,
     sink: &mut Sink<'_, R>,
     out: &mut W,
-) -> io::Result<()> {
+) -> io::Result<()>
+    ensures run { IsRun core.old core.new }
+    ensures whole { client.new.steering.flow ≡ Flow.Whole }
+    ensures same { SameButFlow client.old client.new }
+    ensures sent { client.old.steering.flow ≡ Flow.Whole
+        → (core.new ≡ core.old) × (client.new.line ≡ client.old.line) }
+    ensures dropped { (x : connections.Client) → client.old.steering.flow ≡ Flow.Dropped
+        → (seen core.old).downs number ≡ Some x
+        → OnOk result (CoreDoes (Shares (MovesDown number (Sends x.downstream.conn.output)))
+        (seen core.old) (seen core.new)) }
+    ensures cut { (count : ℕ) → client.old.steering.flow ≡ Flow.Cut count → OnOk result
+        (client.new.line ≡ limited (min count
+        (length (output_to ((seen core.old).downs number)))) client.old.line) }
+{
     let flow = client.steering.flow;
     client.steering.flow = Flow::Whole;
     match flow {

@@ -1,13 +1,21 @@
 //! Accepts clients, and has each connection take its turns.
 
-use crate::due::Side;
+#![tactic(auto, using(crate::proofs::Runs::run_on, crate::proofs::Runs::run_none))]
+
+ghost use Rattle.std.specs.Prelude.{◌≡◌, ◌&&◌, nat_le, not};
+ghost use Rattle.std.specs.IoError.{error_kind};
+ghost use Rattle.std.specs.List.{list_any};
+ghost use Rattle.indexmap.specs.IndexMap.{values};
+ghost use Rattle.wire_share.specs.Running.{IsRun, has_output};
+
 use crate::line::Step;
 use crate::sharing::Sharing;
+use crate::side::Side;
 use crate::steering::{Steered, release, steer};
-use mio::{Events, Registry, Token};
+use mio::{Events, Token};
 use proxy::{EventLoop, LISTENER, STDIN, Sink};
 use script_rules::Script;
-use sockets::ACCEPTS;
+use sockets::{ACCEPTS, Acceptor};
 use std::alloc::Global;
 use std::io;
 use std::io::{ErrorKind, Write};
@@ -30,13 +38,18 @@ pub struct Turns {
 }
 
 /// Returns the error that memory ran out.
-fn out_of_memory() -> io::Error {
+fn out_of_memory() -> io::Error
+    ensures { error_kind result ≡ ErrorKind.OutOfMemory }
+{
     io::Error::from(ErrorKind::OutOfMemory)
 }
 
 impl Turns {
     /// Begins with these connections, and this script.
-    pub fn new(alloc: Global, sharing: Sharing, script: Option<Script>) -> Turns {
+    pub fn new(alloc: Global, sharing: Sharing, script: Option<Script>) -> Turns
+        ensures sharing { result.sharing ≡ sharing }
+        ensures script { result.script ≡ script }
+    {
         Turns {
             alloc,
             sharing,
@@ -51,8 +64,10 @@ impl Turns {
         number: u64,
         sink: &mut Sink<'_, R>,
         out: &mut W,
-    ) -> io::Result<()> {
-        let Some(client) = self.sharing.clients.get_mut(number) else {
+    ) -> io::Result<()>
+        ensures run { IsRun self.old.sharing.core self.new.sharing.core }
+    {
+        let Some(client) = self.sharing.clients.map.get_mut(&number) else {
             return Ok(());
         };
         let Some(script) = &mut self.script else {
@@ -73,21 +88,28 @@ impl Turns {
         number: u64,
         sink: &mut Sink<'_, R>,
         out: &mut W,
-    ) -> io::Result<bool> {
-        let Some(client) = self.sharing.clients.get_mut(number) else {
+    ) -> io::Result<bool>
+        ensures run { IsRun self.old.sharing.core self.new.sharing.core }
+    {
+        let Some(client) = self.sharing.clients.map.get_mut(&number) else {
             return Ok(false);
         };
         let step = client.step(&mut self.sharing.core, number)?;
         client.show(sink, out)?;
         match step {
-            Step::Again => {}
-            Step::Waits => return Ok(false),
-            Step::Held => self.steer(rt, number, sink, out)?,
-            Step::Ready => return self.sharing.pass(rt, number, out),
-            Step::Over(leave) if leave.wants_memory() => return Err(out_of_memory()),
-            Step::Over(leave) => self.sharing.close(number, leave, out)?,
+            Step::Again => Ok(true),
+            Step::Waits => Ok(false),
+            Step::Held => {
+                self.steer(rt, number, sink, out)?;
+                Ok(true)
+            }
+            Step::Ready => self.sharing.pass(rt, number, out),
+            Step::Over(leave) if leave.wants_memory() => Err(out_of_memory()),
+            Step::Over(leave) => {
+                self.sharing.close(number, leave, out)?;
+                Ok(true)
+            }
         }
-        Ok(true)
     }
 
     /// Has a connection to the server take a step, if there is one of this number. Returns true if
@@ -97,8 +119,10 @@ impl Turns {
         upstream: u64,
         sink: &mut Sink<'_, R>,
         out: &mut W,
-    ) -> io::Result<bool> {
-        let Some(server) = self.sharing.servers.get_mut(upstream) else {
+    ) -> io::Result<bool>
+        ensures run { IsRun self.old.sharing.core self.new.sharing.core }
+    {
+        let Some(server) = self.sharing.servers.map.get_mut(&upstream) else {
             return Ok(false);
         };
         if self.sharing.core.is_done(upstream) {
@@ -106,13 +130,38 @@ impl Turns {
             return Ok(false);
         }
         match server.step(&mut self.sharing.core, upstream)? {
-            Step::Again => self.sharing.unblock(upstream)?,
-            Step::Waits | Step::Held => return Ok(false),
-            Step::Ready => self.sharing.give(upstream, sink, out)?,
-            Step::Over(leave) if leave.wants_memory() => return Err(out_of_memory()),
-            Step::Over(leave) => self.sharing.lose(upstream, leave, out)?,
+            Step::Again => {
+                self.sharing.unblock(upstream)?;
+                Ok(true)
+            }
+            Step::Waits | Step::Held => Ok(false),
+            Step::Ready => {
+                self.sharing.give(upstream, sink, out)?;
+                Ok(true)
+            }
+            Step::Over(leave) if leave.wants_memory() => Err(out_of_memory()),
+            Step::Over(leave) => {
+                self.sharing.lose(upstream, leave, out)?;
+                Ok(true)
+            }
         }
-        Ok(true)
+    }
+
+    /// Has a connection take a step, if it is still there. Returns true if it may take another one at
+    /// once.
+    fn step<R: Net + Files + Clock, W: Write>(
+        &mut self,
+        rt: &R,
+        side: Side,
+        sink: &mut Sink<'_, R>,
+        out: &mut W,
+    ) -> io::Result<bool>
+        ensures run { IsRun self.old.sharing.core self.new.sharing.core }
+    {
+        match side {
+            Side::Client(number) => self.step_client(rt, number, sink, out),
+            Side::Server(upstream) => self.step_server(upstream, sink, out),
+        }
     }
 
     /// Has a connection take a turn, if it is still there.
@@ -122,29 +171,30 @@ impl Turns {
         side: Side,
         sink: &mut Sink<'_, R>,
         out: &mut W,
-    ) -> io::Result<()> {
+    ) -> io::Result<()>
+        ensures run { IsRun self.old.sharing.core self.new.sharing.core }
+    {
         for _ in 0..STEPS {
-            let goes_on = match side {
-                Side::Client(number) => self.step_client(rt, number, sink, out)?,
-                Side::Server(upstream) => self.step_server(upstream, sink, out)?,
-            };
-            if !goes_on {
+            if !self.step(rt, side, sink, out)? {
                 return Ok(());
             }
         }
-        Ok(self.sharing.due.push(side)?)
+        Ok(self.sharing.due.push(side.token())?)
     }
 
     /// Lets each request go on that was held for long enough.
-    fn release(&mut self, clock: &impl Clock) -> io::Result<()> {
+    fn release(&mut self, clock: &impl Clock) -> io::Result<()>
+        ensures core { self.new.sharing.core ≡ self.old.sharing.core }
+        ensures script { self.new.script ≡ self.old.script }
+    {
         for _ in 0..HELD {
             let Some(number) = self.sharing.delays.take_due(clock)? else {
                 break;
             };
             let number = number as u64;
-            if let Some(client) = self.sharing.clients.get_mut(number) {
+            if let Some(client) = self.sharing.clients.map.get_mut(&number) {
                 release(client);
-                self.sharing.due.push(Side::Client(number))?;
+                self.sharing.due.push(Side::Client(number).token())?;
             }
         }
         Ok(())
@@ -156,11 +206,13 @@ impl Turns {
         rt: &R,
         sink: &mut Sink<'_, R>,
         out: &mut W,
-    ) -> io::Result<()> {
+    ) -> io::Result<()>
+        ensures run { IsRun self.old.sharing.core self.new.sharing.core }
+    {
         let due = self.sharing.due.len();
         for _ in 0..due {
-            if let Some(side) = self.sharing.due.pop() {
-                self.turn(rt, side, sink, out)?;
+            if let Some(token) = self.sharing.due.pop() {
+                self.turn(rt, Side::of_token(token), sink, out)?;
             }
         }
         Ok(())
@@ -173,7 +225,9 @@ impl Turns {
         events: &Events<Global>,
         sink: &mut Sink<'_, R>,
         out: &mut W,
-    ) -> io::Result<()> {
+    ) -> io::Result<()>
+        ensures run { IsRun self.old.sharing.core self.new.sharing.core }
+    {
         for event in events.iter() {
             match event.token() {
                 LISTENER => self.sharing.connector.resume(),
@@ -185,7 +239,9 @@ impl Turns {
     }
 
     /// Accepts clients, until none waits, and no more than `ACCEPTS`.
-    fn accept_some<W: Write>(&mut self, out: &mut W) -> io::Result<()> {
+    fn accept_some<W: Write>(&mut self, out: &mut W) -> io::Result<()>
+        ensures run { IsRun self.old.sharing.core self.new.sharing.core }
+    {
         for _ in 0..ACCEPTS {
             if !self.sharing.accept(out)? {
                 break;
@@ -196,12 +252,17 @@ impl Turns {
 }
 
 impl EventLoop for Turns {
-    fn is_over(&self, wanted: u64) -> bool {
+    ghost accepts = { λ t. t.sharing.connector.acceptor };
+
+    fn is_over(&self, wanted: u64) -> bool
+        ensures { result ≡ (nat_le wanted self.now.sharing.clients.ended
+            && not (list_any has_output (values self.now.sharing.core.state.ups))) }
+    {
         self.sharing.clients.ended() >= wanted && !self.sharing.core.has_output()
     }
 
-    fn registry(&self) -> &Registry {
-        self.sharing.connector.registry()
+    fn acceptor(&self) -> &Acceptor {
+        self.sharing.connector.acceptor()
     }
 
     fn serve_some<R: Net + Files + Clock, W: Write>(
@@ -210,7 +271,9 @@ impl EventLoop for Turns {
         events: &mut Events<Global>,
         sink: &mut Sink<'_, R>,
         out: &mut W,
-    ) -> io::Result<()> {
+    ) -> io::Result<()>
+        ensures run { IsRun self.old.sharing.core self.new.sharing.core }
+    {
         out.flush()?;
         sink.flush()?;
         let least = self.sharing.delays.least(rt)?;
@@ -219,9 +282,9 @@ impl EventLoop for Turns {
         self.release(rt)?;
         self.take_turns(rt, events, sink, out)?;
         self.turn_due(rt, sink, out)?;
-        if self.sharing.connector.is_ready() {
-            self.accept_some(out)?;
+        if !self.sharing.connector.is_ready() {
+            return Ok(());
         }
-        Ok(())
+        self.accept_some(out)
     }
 }

@@ -1,3 +1,4 @@
+pub mod Delaying
 pub mod Windows
 pub mod Ways
 pub mod RelayRuns

@@ -1,6 +1,7 @@
 -- The connections of which a message is held.
-use Rattle.std.specs.Prelude.{◌≡◌, ◌==◌, ◌-◌, ◌*◌, ◌+◌, ℕ, Bool, List, Option, None, Some}
-use Rattle.std.specs.Prelude.{false, true, [], ◌∷◌, ◌++◌, MatchOption, position, remove, slice_get}
+use Rattle.std.specs.Prelude.{◌≡◌, ◌⊎◌, ◌==◌, ◌-◌, ◌*◌, ◌+◌, ℕ, Bool, List, Option, None, Some}
+use Rattle.std.specs.Prelude.{false, true, [], ◌∷◌, ◌++◌, MatchOption, min, position, remove}
+use Rattle.std.specs.Prelude.{slice_get}
 use Rattle.std.specs.Time.{FitsClock, instant_nanos}
 use Rattle.std.specs.declared.time.Instant.{Instant}
 use Rattle.sockets.specs.declared.delays.Delay.{Delay}
@@ -42,3 +43,24 @@ pub record IsTaken (key : ℕ) (old new : List Delay) : Type 0 where
   pub now : Instant
   pub due : is_due taken.due now ≡ true
   pub others : new ≡ remove old i
+
+-- in how many nanoseconds a message is let go from this moment on, if it is
+abbrev pub nanos_left : Option Instant → (now : Instant) → Option ℕ
+nanos_left None now = None
+nanos_left (Some due) now = Some (instant_nanos due - instant_nanos now)
+
+-- the smaller one of two numbers, or the one that there is
+abbrev pub sooner : Option ℕ → Option ℕ → Option ℕ
+sooner None b = b
+sooner (Some a) None = Some a
+sooner (Some a) (Some b) = Some (min a b)
+
+-- in how many nanoseconds the first message is let go from this moment on, if one is
+abbrev pub first_left : List Delay → (now : Instant) → Option ℕ
+first_left [] now = None
+first_left (d ∷ ds) now = sooner (nanos_left d.due now) (first_left ds now)
+
+-- No message is held, or the first one is let go in so many nanoseconds from a moment of the clock
+-- on, or none ever.
+abbrev pub IsLeast : (left : Option ℕ) → List Delay → Type 0
+IsLeast left ds = ((ds ≡ []) × (left ≡ None)) ⊎ ((now : Instant) × (left ≡ first_left ds now))

@@ -1,16 +1,18 @@
 //! Accepts connections, as many as are wanted, and waits for what happens on them.
 
-ghost use Rattle.std.specs.Prelude.{◌≡◌, ◌↔◌, ◌+◌, IfOk, IfSome, IsTrue, None, Some, false, true};
-ghost use Rattle.std.specs.Prelude.{min, option_map};
+ghost use Rattle.std.specs.Prelude.{◌≡◌, ◌↔◌, ◌+◌, [], IfOk, IfSome, IsTrue, None, OnErr, Some};
+ghost use Rattle.std.specs.Prelude.{false, option_map, true};
 ghost use Rattle.std.specs.Duration.{as_nanos};
+ghost use Rattle.mio.specs.Events.{items};
 ghost use Rattle.mio.specs.declared.net.stream.TcpStream.{TcpStream};
 ghost use Rattle.sockets.specs.Waiting.{IsReady, wait_nanos};
 
+use crate::delays::sooner;
 use crate::failure::IoFailure;
 use crate::polling;
 use crate::standing::{Backlog, Standing, WaitReason};
 use mio::net::{TcpListener, TcpStream};
-use mio::{Events, Interest, Poll, Registry, Token};
+use mio::{Events, Interest, Poll, Token};
 use std::alloc::Global;
 use std::io;
 use std::io::{ErrorKind, Write};
@@ -26,7 +28,7 @@ const PAUSE: u64 = 50;
 /// A listener, and what tells of its connections and of others.
 #[derive(Drop)]
 pub struct Acceptor {
-    poll: Poll,
+    pub(crate) poll: Poll,
     /// The listener, until as many connections came as are wanted.
     listener: Option<TcpListener>,
     standing: Standing,
@@ -35,13 +37,6 @@ pub struct Acceptor {
     returned: Option<TcpStream>,
     /// How many more connections are accepted.
     wanted: u64,
-}
-
-/// Returns the shorter one of two times.
-fn shorter(a: Duration, b: Duration) -> Duration
-    ensures { as_nanos result ≡ min (as_nanos a) (as_nanos b) }
-{
-    if a.saturating_sub(b).is_zero() { a } else { b }
 }
 
 impl Acceptor {
@@ -74,17 +69,14 @@ impl Acceptor {
         })
     }
 
-    /// Returns what registers sockets, so that `wait` tells of their events.
-    pub fn registry(&self) -> &Registry {
-        self.poll.registry()
-    }
-
     /// Registers a stream, so that its events come under this token.
     ///
     /// # Errors
     ///
     /// Returns why that failed.
-    pub fn register(&self, stream: &mut TcpStream, token: usize) -> io::Result<()> {
+    pub fn register(&self, stream: &mut TcpStream, token: usize) -> io::Result<()>
+        ensures { stream.new ≡ stream.old }
+    {
         polling::register(self.poll.registry(), stream, token)
     }
 
@@ -262,10 +254,7 @@ impl Acceptor {
         }
         match self.standing {
             Standing::Ready => Some(Duration::from_millis(0)),
-            Standing::Pauses => {
-                let pause = Duration::from_millis(PAUSE);
-                Some(least.map_or(pause, |least| shorter(least, pause)))
-            }
+            Standing::Pauses => sooner(least, Some(Duration::from_millis(PAUSE))),
             Standing::Waits => least,
         }
     }
@@ -283,6 +272,7 @@ impl Acceptor {
     ) -> io::Result<()>
         ensures kept { (self.new.returned ≡ self.old.returned)
             × (self.new.wanted ≡ self.old.wanted) }
+        ensures failed { OnErr result (items events.new ≡ []) }
     {
         let timeout = self.timeout(has_more, least);
         polling::wait(&mut self.poll, events, timeout)?;

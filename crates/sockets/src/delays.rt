@@ -1,8 +1,10 @@
 //! The connections of which a message is held, each until a moment.
 
 ghost use Rattle.std.specs.Prelude.{◌≡◌, [], IfOk, MatchOption, OnErr, OnOk};
-ghost use Rattle.std.specs.Prelude.{is_some};
-ghost use Rattle.sockets.specs.Delaying.{Holds, IsTaken, index_of, is_due, without};
+ghost use Rattle.std.specs.Prelude.{is_some, min, option_map};
+ghost use Rattle.std.specs.Duration.{as_nanos};
+ghost use Rattle.sockets.specs.Delaying.{Holds, IsLeast, IsTaken, index_of, is_due, nanos_left};
+ghost use Rattle.sockets.specs.Delaying.{sooner, without};
 
 use std::alloc::Global;
 use std::io;
@@ -17,7 +19,33 @@ struct Delay {
     due: Option<Instant>,
 }
 
+/// Returns the shorter one of two times.
+fn shorter(a: Duration, b: Duration) -> Duration
+    ensures { as_nanos result ≡ min (as_nanos a) (as_nanos b) }
+{
+    if a.saturating_sub(b).is_zero() { a } else { b }
+}
+
+/// Returns the shorter one of two times, or the one that there is.
+pub(crate) fn sooner(a: Option<Duration>, b: Option<Duration>) -> Option<Duration>
+    ensures { option_map as_nanos result
+        ≡ sooner (option_map as_nanos a) (option_map as_nanos b) }
+{
+    match (a, b) {
+        (Some(a), Some(b)) => Some(shorter(a, b)),
+        (Some(a), None) => Some(a),
+        (None, b) => b,
+    }
+}
+
 impl Delay {
+    /// Returns for how long the message is held from this moment on, if it is let go.
+    fn left(&self, now: Instant) -> Option<Duration>
+        ensures { option_map as_nanos result ≡ nanos_left self.now.due now }
+    {
+        Some(self.due?.saturating_duration_since(now))
+    }
+
     /// Returns true if the message is let go at this moment.
     fn is_due(self, now: Instant) -> bool
         ensures { result ≡ is_due self.due now }
@@ -88,20 +116,16 @@ impl Delays {
     /// # Errors
     ///
     /// Returns an error if the clock can't be read.
-    pub fn least(&self, clock: &impl Clock) -> io::Result<Option<Duration>> {
+    pub fn least(&self, clock: &impl Clock) -> io::Result<Option<Duration>>
+        ensures { IfOk result (λ left. IsLeast (option_map as_nanos left) self.now.list.items) }
+    {
         if self.list.is_empty() {
             return Ok(None);
         }
         let now = Instant::now(clock)?;
         let mut least = None;
-        for delay in &self.list {
-            if let Some(due) = delay.due {
-                let left = due.saturating_duration_since(now);
-                least = match least {
-                    Some(other) if other < left => Some(other),
-                    _ => Some(left),
-                };
-            }
+        for delay in self.list.iter() {
+            least = sooner(least, delay.left(now));
         }
         Ok(least)
     }

@@ -1,6 +1,6 @@
 //! Begins to listen, and tells where.
 
-ghost use Rattle.std.specs.Prelude.{OnOk};
+ghost use Rattle.std.specs.Prelude.{◌≡◌, None, Ok, OnOk};
 ghost use Rattle.std.specs.Io.KnownBytes.{Appends};
 ghost use Rattle.sockets.specs.Telling.{listening_line, port_text};
 
@@ -46,7 +46,9 @@ fn write_port<W: Write>(port: u16, out: &mut W) -> io::Result<()>
 /// # Errors
 ///
 /// Returns an error if the file can't be written.
-pub fn tell_port<R: Files>(rt: &R, file: Option<&str>, port: u16) -> io::Result<()> {
+pub fn tell_port<R: Files>(rt: &R, file: Option<&str>, port: u16) -> io::Result<()>
+    ensures none { file.entry ≡ None → result ≡ Ok tt }
+{
     match file {
         Some(file) => write_port(port, &mut File::create(rt, file)?),
         None => Ok(()),

@@ -1,5 +1,8 @@
 //! Waits for what happens on sockets.
 
+ghost use Rattle.std.specs.Prelude.{◌≡◌, ◌≤◌, [], length, OnErr};
+ghost use Rattle.mio.specs.Events.{capacity as events_capacity, items};
+
 use mio::net::TcpStream;
 use mio::{Events, Interest, Poll, Registry, Token};
 use std::alloc::Global;
@@ -22,7 +25,9 @@ pub const STDIN: Token = Token(usize::MAX - 1);
 /// # Errors
 ///
 /// Returns why that failed.
-pub fn register(registry: &Registry, stream: &mut TcpStream, token: usize) -> io::Result<()> {
+pub fn register(registry: &Registry, stream: &mut TcpStream, token: usize) -> io::Result<()>
+    ensures { stream.new ≡ stream.old }
+{
     stream.set_nodelay(true)?;
     let interest = Interest::READABLE | Interest::WRITABLE;
     registry.register(stream, Token(token), interest)
@@ -38,7 +43,11 @@ pub fn wait(
     poll: &mut Poll,
     events: &mut Events<Global>,
     timeout: Option<Duration>,
-) -> io::Result<()> {
+) -> io::Result<()>
+    ensures count { length (items events.new) ≤ events_capacity events.old }
+    ensures capacity { events_capacity events.new ≡ events_capacity events.old }
+    ensures failed { OnErr result (items events.new ≡ []) }
+{
     match poll.poll(events, timeout) {
         Err(error) if error.kind() == ErrorKind::Interrupted => Ok(()),
         waited => waited,

@@ -1,7 +1,7 @@
 //! Whether connections wait that aren't accepted, and why.
 
 use crate::failure::IoFailure;
-use std::fmt;
+use thiserror::Error;
 
 /// Whether a connection may wait at the listener.
 #[derive(Clone, Copy, Debug, PartialEq, Eq)]
@@ -15,23 +15,14 @@ pub(crate) enum Standing {
 }
 
 /// Why no more connections are accepted for now.
-#[derive(Clone, Copy, Debug, PartialEq, Eq)]
+#[derive(Clone, Copy, Debug, PartialEq, Eq, Error)]
 pub enum WaitReason {
     /// As many connections are open as may be.
+    #[error("accepting waits: as many connections are open as may be")]
     Room,
     /// Accepting one failed, or the system had no open file or memory left for it.
+    #[error("accepting waits: {0}")]
     Failed(IoFailure),
-}
-
-impl fmt::Display for WaitReason {
-    fn fmt<W: fmt::Write>(&self, f: &mut fmt::Formatter<W>) -> fmt::Result {
-        match self {
-            WaitReason::Room => {
-                f.write_str("accepting waits: as many connections are open as may be")
-            }
-            WaitReason::Failed(failure) => write!(f, "accepting waits: {failure}"),
-        }
-    }
 }
 
 /// Whether connections may wait that aren't accepted for now.

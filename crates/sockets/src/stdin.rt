@@ -2,9 +2,10 @@
 
 ghost use Rattle.std.specs.Prelude.{◌≡◌, ◌⊎◌, ◌↔◌, IsTrue, None, false};
 
+use crate::acceptor::Acceptor;
 use crate::polling;
 use mio::unix::SourceFd;
-use mio::{Events, Interest, Registry, Token};
+use mio::{Events, Interest, Token};
 use std::alloc::Global;
 use std::io::{BufRead, ErrorKind, Input};
 
@@ -31,11 +32,13 @@ pub struct Stdin<I> {
 impl<I: BufRead + Drop> Stdin<I> {
     /// Begins to watch standard input under this token, if there is a `reader`, which reads it. If
     /// the system can't tell of its events, it is a file, which is over when it is opened.
-    pub fn new(reader: Option<I>, registry: &Registry, token: Token) -> Stdin<I>
+    pub fn new(reader: Option<I>, acceptor: &Acceptor, token: Token) -> Stdin<I>
         ensures reader { result.reader ≡ reader }
     {
         let ended = match &reader {
-            Some(_) => registry
+            Some(_) => acceptor
+                .poll
+                .registry()
                 .register(&mut SourceFd(&STDIN), token, Interest::READABLE)
                 .is_err(),
             None => false,
@@ -55,16 +58,16 @@ impl<I: BufRead + Drop> Stdin<I> {
     }
 
     /// Takes what came over standard input, if one of these events is of it.
-    pub fn see(&mut self, registry: &Registry, events: &Events<Global>)
+    pub fn see(&mut self, acceptor: &Acceptor, events: &Events<Global>)
         ensures unwatched { self.old.reader ≡ None → self.new ≡ self.old }
     {
         if events.iter().any(|event| event.token() == self.token) {
-            self.take(registry);
+            self.take(acceptor);
         }
     }
 
     /// Lets go of what came, after an event, and has the next event told.
-    fn take(&mut self, registry: &Registry)
+    fn take(&mut self, acceptor: &Acceptor)
         ensures { self.old.reader ≡ None → self.new ≡ self.old }
     {
         let Some(reader) = &mut self.reader else {
@@ -75,13 +78,16 @@ impl<I: BufRead + Drop> Stdin<I> {
             Err(error) => (0, !may_go_on(error.kind())),
         };
         reader.consume(came);
-        let watched = registry.reregister(&mut SourceFd(&STDIN), self.token, Interest::READABLE);
+        let watched = acceptor
+            .poll
+            .registry()
+            .reregister(&mut SourceFd(&STDIN), self.token, Interest::READABLE);
         self.ended = ended || watched.is_err();
     }
 }
 
 /// Begins to watch standard input under the token `STDIN` of this crate, if its end is waited for.
-pub fn watch_stdin<R: Input>(rt: &R, is_waited_for: bool, registry: &Registry) -> Stdin<R::Reader>
+pub fn watch_stdin<R: Input>(rt: &R, is_waited_for: bool, acceptor: &Acceptor) -> Stdin<R::Reader>
     ensures { is_waited_for ≡ false → result.reader ≡ None }
 {
     let reader = if is_waited_for {
@@ -89,5 +95,5 @@ pub fn watch_stdin<R: Input>(rt: &R, is_waited_for: bool, registry: &Registry) -
     } else {
         None
     };
-    Stdin::new(reader, registry, polling::STDIN)
+    Stdin::new(reader, acceptor, polling::STDIN)
 }

@@ -1,4 +1,4 @@
-use Rattle.std.proofs.Common.{◌≡◌, ◌+◌, ◌-◌, ℕ, arith, length, min}
+use Rattle.std.proofs.Common.{arith}
 use Rattle.proxy.proofs.HeldLists.{length_owed}
 use Rattle.proxy.proofs.held.Held.cut.Goals as goal
 

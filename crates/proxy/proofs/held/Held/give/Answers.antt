@@ -1,5 +1,5 @@
-use Rattle.std.proofs.Common.{◌≡◌, ◌∙◌, ◌+◌, ◌-◌, ◌≤◌, ◌++◌, ℕ, List, ap, arith, drop, length, refl, sym, take}
-use Rattle.proxy.proofs.HeldLists.{between, gives_count, gives_part}
+use Rattle.std.proofs.Common.{◌≡◌, ◌∙◌, ◌+◌, ◌-◌, ◌≤◌, ℕ, List, ap, arith, drop, refl, take}
+use Rattle.proxy.proofs.HeldLists.{gives_count, gives_part}
 use Rattle.proxy.proofs.held.Held.give.Goals as goal
 
 pub returns-clause-gives : goal.returns-clause-gives

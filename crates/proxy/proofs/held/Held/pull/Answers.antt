@@ -1,4 +1,4 @@
-use Rattle.std.proofs.Common.{◌∙◌, arith, drop}
+use Rattle.std.proofs.Common.{arith, drop}
 use Rattle.proxy.specs.Holding.{view_of}
 use Rattle.proxy.proofs.Pulling.{pulled_flow, pulled_given}
 use Rattle.proxy.proofs.held.Held.pull.Goals as goal

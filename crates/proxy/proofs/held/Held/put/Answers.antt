@@ -1,4 +1,4 @@
-use Rattle.std.proofs.Common.{◌≡◌, ◌∙◌, ◌++◌, ℕ, List, ap, refl}
+use Rattle.std.proofs.Common.{◌∙◌, ℕ, List, ap}
 use Rattle.proxy.specs.Holding.{view_of}
 use Rattle.proxy.proofs.HeldLists.{between, owed_in_front}
 use Rattle.proxy.proofs.Putting.{is_put}

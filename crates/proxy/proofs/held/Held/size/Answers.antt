@@ -1,4 +1,3 @@
-use Rattle.std.proofs.Common.{◌≡◌, ◌∙◌, ◌+◌, ℕ, List, ap, arith, length, sym}
 use Rattle.proxy.proofs.HeldLists.{fits_held}
 use Rattle.proxy.proofs.held.Held.size.Goals as goal
 

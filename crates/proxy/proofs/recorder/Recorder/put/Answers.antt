@@ -3,7 +3,7 @@ use Rattle.std.specs.Int.{cast_signed, cast_unsigned, w64}
 use Rattle.std.proofs.KnownBytes.{Keeps-refl}
 use Rattle.wire_frames.specs.{frame_bytes}
 use Rattle.wire_frames.specs.declared.head.RecordHead.{RecordHead}
-use Rattle.proxy.specs.Recording.{IsHeadOf, log_of}
+use Rattle.proxy.specs.Recording.{IsHeadOf}
 use Rattle.proxy.proofs.Recorded.{is_recorded}
 use Rattle.proxy.proofs.recorder.Recorder.put.Goals as goal
 use Rattle.proxy.proofs.recorder.Recorder.put.Goals.{else-len-ge-ROOM, then-len-ge-ROOM+in_ok-flush}

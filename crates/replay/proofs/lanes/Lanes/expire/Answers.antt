@@ -1,0 +1,5 @@
+use Rattle.replay.proofs.Counting.{told_both}
+use Rattle.replay.proofs.lanes.Lanes.expire.Goals as goal
+
+pub loop-i-preserved : goal.loop-i-preserved
+loop-i-preserved g c = told_both _ _ _ c.loop-i.invariant c.in_ok-expire_one.ensures.told

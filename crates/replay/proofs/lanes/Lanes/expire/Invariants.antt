@@ -1,0 +1,5 @@
+use Rattle.replay.specs.Counts.{HasTold}
+use Rattle.replay.proofs.lanes.Lanes.expire.Given as goal
+
+abbrev pub invariant-loop-i : goal.invariant-loop-i
+invariant-loop-i g l = HasTold l.fn.teller.tally l.teller.tally
