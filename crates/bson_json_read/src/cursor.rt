@@ -251,7 +251,9 @@ impl<'a> Cursor<'a> {
         if byte_at(bytes, self.at) != b'"' || !self.behind.may_begin() {
             return None;
         }
-        let part = string_at(self.text, self.at)?;
+        let Some(part) = string_at(self.text, self.at) else {
+            return None;
+        };
         let colon = past_spaces(bytes, part.end);
         if byte_at(bytes, colon) != b':' {
             return None;
@@ -272,8 +274,12 @@ impl<'a> Cursor<'a> {
         if byte_at(bytes, self.at) != b'"' || !self.behind.may_begin() {
             return None;
         }
-        let part = string_at(self.text, self.at)?;
-        let at = behind_value(bytes, part.end)?;
+        let Some(part) = string_at(self.text, self.at) else {
+            return None;
+        };
+        let Some(at) = behind_value(bytes, part.end) else {
+            return None;
+        };
         self.at = at;
         self.behind = Behind::Value;
         Some(part.text)
@@ -287,10 +293,12 @@ impl<'a> Cursor<'a> {
         if !self.behind.may_begin() {
             return None;
         }
-        let Word { token, at } = word_at(self.text, self.at)?;
-        self.at = at;
+        let Some(word) = word_at(self.text, self.at) else {
+            return None;
+        };
+        self.at = word.at;
         self.behind = Behind::Value;
-        Some(token)
+        Some(word.token)
     }
 
     /// Returns true if it stands at the beginning of an object.

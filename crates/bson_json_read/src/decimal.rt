@@ -156,8 +156,10 @@ fn coefficient_of(numeral: &Numeral<'_>) -> Option<(u128, u64)>
     ensures small { IfSome result (λ r. r.0 < 10 ^ 34) }
     ensures few { IfSome result (λ r. r.1 < 2 ^ 40) }
 {
-    let (c, left_out) = more_digits(0, 0, numeral.whole())?;
-    more_digits(c, left_out, numeral.fraction())
+    match more_digits(0, 0, numeral.whole()) {
+        Some((c, left_out)) => more_digits(c, left_out, numeral.fraction()),
+        None => None,
+    }
 }
 
 /// Returns the bits of a numeral with an exponent below 2^64.
@@ -187,7 +189,9 @@ fn numeral_bits(negative: bool, numeral: &Numeral<'_>) -> Option<u128>
     requires { length numeral.now.whole + length numeral.now.fraction < 2 ^ 32 }
     ensures { result ≡ spec.numeral_bits negative numeral.now }
 {
-    let (c, left_out) = coefficient_of(numeral)?;
+    let Some((c, left_out)) = coefficient_of(numeral) else {
+        return None;
+    };
     let fraction = numeral.fraction().len() as u64;
     let below = numeral.is_exponent_negative();
     match exponent_of(numeral.exponent()) {
@@ -260,6 +264,8 @@ pub fn decimal128_from_text(text: &str) -> Option<[u8; 16]>
     if text.len() >= 1 << 32 {
         return None;
     }
-    let bits = decimal_bits(text.as_bytes())?;
-    Some(bits.to_le_bytes())
+    match decimal_bits(text.as_bytes()) {
+        Some(bits) => Some(bits.to_le_bytes()),
+        None => None,
+    }
 }

@@ -72,10 +72,9 @@ fn text_named<'t, 'a>(name: &str, left: &mut Source<'t, 'a>) -> Option<&'a str>
         ≡ token.key name.now ∷ token.string s.now ∷ left_of left.new) }
 {
     left.pass_comma();
-    if left.name()? == name {
-        left.text()
-    } else {
-        None
+    match left.name() {
+        Some(next) if next == name => left.text(),
+        _ => None,
     }
 }
 
@@ -84,7 +83,10 @@ fn date_of(text: &str) -> Option<Leaf>
     ensures { IfSome result (λ l.
         option_map date_value (integer_of (2 ^ 63) text.now) ≡ Some (leaf_of l)) }
 {
-    Some(Leaf::DateTime(read_i64(text)?))
+    match read_i64(text) {
+        Some(ms) => Some(Leaf::DateTime(ms)),
+        None => None,
+    }
 }
 
 /// Appends the date of an object of `$date` whose value is one of `$numberLong`.
@@ -347,7 +349,10 @@ fn plain_number(text: &str) -> Option<Leaf>
     if let Some(number) = read_i64(text) {
         return Some(Leaf::Int64(number));
     }
-    Some(Leaf::Double(double_to_bytes(read_finite(text)?)))
+    match read_finite(text) {
+        Some(number) => Some(Leaf::Double(double_to_bytes(number))),
+        None => None,
+    }
 }
 
 /// Appends the element of a number, a truth value or null.

@@ -142,7 +142,10 @@ fn time_of(bytes: &[u8]) -> Option<u32>
     ensures value { result ≡ spec.time_of bytes.now }
     ensures small { IfSome result (λ seconds. seconds < 86400) }
 {
-    seconds_if(two(bytes, 17), minutes_at(bytes, 11)?)
+    match minutes_at(bytes, 11) {
+        Some(minutes) => seconds_if(two(bytes, 17), minutes),
+        None => None,
+    }
 }
 
 /// Returns the seconds from 0001-01-01 to a full-date and its time without a fraction.
@@ -151,9 +154,13 @@ fn seconds_of(bytes: &[u8]) -> Option<u64>
     ensures value { result ≡ spec.seconds_of bytes.now }
     ensures small { IfSome result (λ seconds. seconds < 400000000000) }
 {
-    let days = day_of(bytes)?;
-    let seconds = time_of(bytes)?;
-    Some(u64::from(days) * 86_400 + u64::from(seconds))
+    let Some(days) = day_of(bytes) else {
+        return None;
+    };
+    match time_of(bytes) {
+        Some(seconds) => Some(u64::from(days) * 86_400 + u64::from(seconds)),
+        None => None,
+    }
 }
 
 /// Returns the milliseconds of time-secfrac, RFC 3339, section 5.6, and how many bytes it has; both
@@ -181,9 +188,15 @@ fn offset_of(zone: &[u8]) -> Option<i32>
     if is_like(b"Z", zone) {
         Some(0)
     } else if is_like(b"+00:00", zone) {
-        Some(minutes_at(zone, 1)? as i32)
+        match minutes_at(zone, 1) {
+            Some(minutes) => Some(minutes as i32),
+            None => None,
+        }
     } else if is_like(b"-00:00", zone) {
-        Some(-(minutes_at(zone, 1)? as i32))
+        match minutes_at(zone, 1) {
+            Some(minutes) => Some(-(minutes as i32)),
+            None => None,
+        }
     } else {
         None
     }
@@ -206,7 +219,10 @@ fn with_offset(seconds: u64, ms: u32, zone: &[u8]) -> Option<i64>
     requires { (seconds < 400000000000) × (ms < 100000) }
     ensures { result ≡ spec.with_offset seconds ms zone.now }
 {
-    Some(since_1970(seconds, ms, offset_of(zone)?))
+    match offset_of(zone) {
+        Some(offset) => Some(since_1970(seconds, ms, offset)),
+        None => None,
+    }
 }
 
 /// Returns the milliseconds since 1970 of these seconds and of what stands behind them.
@@ -227,6 +243,8 @@ pub(crate) fn read_iso(text: &str) -> Option<i64>
     if !begins(LOCAL, bytes) {
         return None;
     }
-    let seconds = seconds_of(bytes)?;
-    with_rest(&bytes[19..], seconds)
+    match seconds_of(bytes) {
+        Some(seconds) => with_rest(&bytes[19..], seconds),
+        None => None,
+    }
 }

@@ -44,8 +44,10 @@ fn uuid(alloc: Global, text: &str) -> Result<Option<Bson>, AllocError>
     let Some(id) = read_uuid(text) else {
         return Ok(None);
     };
-    let bytes = Vec::from_slice(alloc, &id)?;
-    Ok(Some(Bson::Binary { subtype: 4, bytes }))
+    match Vec::from_slice(alloc, &id) {
+        Ok(bytes) => Ok(Some(Bson::Binary { subtype: 4, bytes })),
+        Err(error) => Err(error),
+    }
 }
 
 /// Returns the value that a text stands for in an object of this form.
@@ -55,8 +57,14 @@ fn text_value(alloc: Global, form: Form, text: &str) -> Result<Option<Bson>, All
         ≡ member_value form (string text.now)) }
 {
     match form {
-        Form::Symbol => Ok(Some(Bson::Symbol(String::from_str(alloc, text)?))),
-        Form::Code => Ok(Some(Bson::Code(String::from_str(alloc, text)?))),
+        Form::Symbol => match String::from_str(alloc, text) {
+            Ok(symbol) => Ok(Some(Bson::Symbol(symbol))),
+            Err(error) => Err(error),
+        },
+        Form::Code => match String::from_str(alloc, text) {
+            Ok(code) => Ok(Some(Bson::Code(code))),
+            Err(error) => Err(error),
+        },
         Form::Uuid => uuid(alloc, text),
         _ => match text_leaf(form, text) {
             Some(leaf) => Ok(Some(bson_of(leaf))),
@@ -70,8 +78,16 @@ fn texts_alone<'a>(members: &[(&'a str, Value<'a>)], a: &str, b: &str) -> Option
     ensures { option_map (λ p. (p.0.now, p.1.now)) result
         ≡ both_texts a.now b.now (members_view members.now) }
 {
-    let (first, second) = both_values(members, a, b)?;
-    Some((first.as_str()?, second.as_str()?))
+    let Some((first, second)) = both_values(members, a, b) else {
+        return None;
+    };
+    let Some(first) = first.as_str() else {
+        return None;
+    };
+    match second.as_str() {
+        Some(second) => Some((first, second)),
+        None => None,
+    }
 }
 
 /// Returns the binary of these texts.
@@ -120,8 +136,10 @@ fn pointer_of<'a>(
     let Some(id) = id_in(id) else {
         return Ok(None);
     };
-    let namespace = String::from_str(alloc, namespace)?;
-    Ok(Some(Bson::DbPointer { namespace, id }))
+    match String::from_str(alloc, namespace) {
+        Ok(namespace) => Ok(Some(Bson::DbPointer { namespace, id })),
+        Err(error) => Err(error),
+    }
 }
 
 /// Returns the value that an object stands for in an object of this form.

@@ -163,7 +163,9 @@ impl JsonFault {
     pub fn place(&self, alloc: Global, text: &str) -> Result<Place, AllocError>
         ensures { IfOk result (λ p. StandsIn text.now p.line p.column) }
     {
-        let offset = self.offset(alloc, text)?;
-        Ok(place_at(text.as_bytes(), offset))
+        match self.offset(alloc, text) {
+            Ok(offset) => Ok(place_at(text.as_bytes(), offset)),
+            Err(error) => Err(error),
+        }
     }
 }

@@ -27,6 +27,7 @@ fn json_of<'a>(alloc: Global, text: &'a str, scratch: &'a mut Scratch) -> Result
     match Value::read(alloc, &mut reader, JSON_DEPTH) {
         Ok(value) => {
             if reader.next().is_some() {
+                drop(value);
                 return Err(Cause::NotJson);
             }
             Ok(value)
@@ -57,7 +58,11 @@ pub(crate) fn from_json_in<'a>(
     ensures err { IfErr result (λ e. IsFault (document_in text.now) e) }
 {
     match json_of(alloc, text, scratch) {
-        Ok(value) => document_of(alloc, &value),
+        Ok(value) => {
+            let read = document_of(alloc, &value);
+            drop(value);
+            read
+        }
         Err(cause) => Err(JsonFault::here(alloc, cause)),
     }
 }

@@ -103,8 +103,14 @@ fn write_owned(
         ⊎ ((path : List ℕ) × (utf8_read bytes.now ≡ Err (e.cause, path)))) }
     ensures offset { IfErr result (λ e. e.offset ≤ length bytes.now) }
 {
-    let document = read_bytes(alloc, bytes, scratch)?;
-    write_raw(&document, out)
+    match read_bytes(alloc, bytes, scratch) {
+        Ok(document) => {
+            let written = write_raw(&document, out);
+            drop(document);
+            written
+        }
+        Err(fault) => Err(fault),
+    }
 }
 
 /// Puts the bytes of a text's document into `out`, in place of what that holds, straight from its

@@ -70,8 +70,16 @@ fn scoped_parts<'v, 'a>(
     ensures { option_map (λ p. (p.0.now, members_view p.1.now)) result
         ≡ spec.scoped (members_view members.now) }
 {
-    let (code, scope) = both_values(members, "$code", "$scope")?;
-    Some((code.as_str()?, as_members(scope)?))
+    let Some((code, scope)) = both_values(members, "$code", "$scope") else {
+        return None;
+    };
+    let Some(code) = code.as_str() else {
+        return None;
+    };
+    match as_members(scope) {
+        Some(scope) => Some((code, scope)),
+        None => None,
+    }
 }
 
 /// Returns the index of the scope of such an object.
@@ -144,7 +152,10 @@ fn code_with_scope(alloc: Global, code: &str, scope: Document) -> Result<Bson, J
 {
     match String::from_str(alloc, code) {
         Ok(code) => Ok(Bson::CodeWithScope { code, scope }),
-        Err(_) => Err(JsonFault::here(alloc, Cause::OutOfMemory)),
+        Err(_) => {
+            drop(scope);
+            Err(JsonFault::here(alloc, Cause::OutOfMemory))
+        }
     }
 }
 
@@ -197,7 +208,13 @@ pub(crate) fn read_document<'a>(
     }
     let mut document = Document::new(alloc);
     for member in members {
-        read_pair(alloc, &mut document, member.0, &member.1, room - 1)?;
+        match read_pair(alloc, &mut document, member.0, &member.1, room - 1) {
+            Ok(()) => {}
+            Err(fault) => {
+                drop(document);
+                return Err(fault);
+            }
+        }
     }
     Ok(document)
 }
@@ -242,7 +259,13 @@ fn read_array<'a>(alloc: Global, items: &[Value<'a>], room: u32) -> Result<Array
     }
     let mut values = Vec::new(alloc);
     for item in items {
-        read_item(alloc, &mut values, item, room - 1)?;
+        match read_item(alloc, &mut values, item, room - 1) {
+            Ok(()) => {}
+            Err(fault) => {
+                drop(values);
+                return Err(fault);
+            }
+        }
     }
     Ok(Array::from_vec(values))
 }

@@ -27,12 +27,30 @@ pub(crate) fn text_leaf(form: Form, text: &str) -> Option<Leaf>
     ensures { option_map leaf_of result ≡ leaf_text form text.now }
 {
     match form {
-        Form::ObjectId => Some(Leaf::ObjectId(read_object_id(text)?)),
-        Form::Int32 => Some(Leaf::Int32(read_i32(text)?)),
-        Form::Int64 => Some(Leaf::Int64(read_i64(text)?)),
-        Form::Double => Some(Leaf::Double(double_to_bytes(read_double(text)?))),
-        Form::Decimal128 => Some(Leaf::Decimal128(decimal128_from_text(text)?)),
-        Form::DateTime => Some(Leaf::DateTime(read_iso(text)?)),
+        Form::ObjectId => match read_object_id(text) {
+            Some(bytes) => Some(Leaf::ObjectId(bytes)),
+            None => None,
+        },
+        Form::Int32 => match read_i32(text) {
+            Some(n) => Some(Leaf::Int32(n)),
+            None => None,
+        },
+        Form::Int64 => match read_i64(text) {
+            Some(n) => Some(Leaf::Int64(n)),
+            None => None,
+        },
+        Form::Double => match read_double(text) {
+            Some(number) => Some(Leaf::Double(double_to_bytes(number))),
+            None => None,
+        },
+        Form::Decimal128 => match decimal128_from_text(text) {
+            Some(bytes) => Some(Leaf::Decimal128(bytes)),
+            None => None,
+        },
+        Form::DateTime => match read_iso(text) {
+            Some(ms) => Some(Leaf::DateTime(ms)),
+            None => None,
+        },
         _ => None,
     }
 }
@@ -41,14 +59,23 @@ pub(crate) fn text_leaf(form: Form, text: &str) -> Option<Leaf>
 fn text_alone<'v, 'a>(members: &'v [(&'a str, Value<'a>)], name: &str) -> Option<&'a str>
     ensures { option_map (λ s. s.now) result ≡ sole_text name.now (members_view members.now) }
 {
-    sole_value(members, name)?.as_str()
+    match sole_value(members, name) {
+        Some(value) => value.as_str(),
+        None => None,
+    }
 }
 
 /// Returns the bytes of an object that is an ObjectId.
 pub(crate) fn id_in(value: &Value<'_>) -> Option<[u8; 12]>
     ensures { result ≡ spec.id_in (value_view value.now) }
 {
-    read_object_id(text_alone(as_members(value)?, "$oid")?)
+    let Some(members) = as_members(value) else {
+        return None;
+    };
+    match text_alone(members, "$oid") {
+        Some(text) => read_object_id(text),
+        None => None,
+    }
 }
 
 /// Returns the date of `$numberLong`.
@@ -56,25 +83,39 @@ pub(crate) fn long_date<'a>(members: &[(&'a str, Value<'a>)]) -> Option<Bson>
     ensures { option_map value_of result
         ≡ member_value forms.DateTime (object (members_view members.now)) }
 {
-    let text = text_alone(members, "$numberLong")?;
-    Some(Bson::DateTime(read_i64(text)?))
+    let Some(text) = text_alone(members, "$numberLong") else {
+        return None;
+    };
+    match read_i64(text) {
+        Some(ms) => Some(Bson::DateTime(ms)),
+        None => None,
+    }
 }
 
 /// Returns the number of a JSON number below 2^32 without a point or an exponent.
 fn number_in(value: &Value<'_>) -> Option<u32>
     ensures { result ≡ spec.number_in (value_view value.now) }
 {
-    read_u32(value.as_number()?)
+    match value.as_number() {
+        Some(text) => read_u32(text),
+        None => None,
+    }
 }
 
 /// Returns the timestamp of these members.
 pub(crate) fn timestamp<'a>(members: &[(&'a str, Value<'a>)]) -> Option<Bson>
     ensures { option_map value_of result ≡ spec.timestamp_of (members_view members.now) }
 {
-    let (t, i) = both_values(members, "t", "i")?;
-    let seconds = number_in(t)?;
-    let increment = number_in(i)?;
-    Some(Bson::Timestamp { increment, seconds })
+    let Some((t, i)) = both_values(members, "t", "i") else {
+        return None;
+    };
+    let Some(seconds) = number_in(t) else {
+        return None;
+    };
+    match number_in(i) {
+        Some(increment) => Some(Bson::Timestamp { increment, seconds }),
+        None => None,
+    }
 }
 
 /// Returns true if the value is the number 1.

@@ -8,6 +8,6 @@ returns-clause-token c =
     let same = c.as_bytes-bytes.ensures.value in
     let d = c.self.inside.text.now in
     sym c.self.view_is
-    ∙ name_step d c.in_ok-part.part.text.now c.self.inside.at c.in_ok-part.part.end c.past_spaces-colon.result c.past_spaces-self-inside.result (place_of c.self.inside.behind) c.in_ok-part.ensures.lex
+    ∙ name_step d c.in-Some.part.text.now c.self.inside.at c.in-Some.part.end c.past_spaces-colon.result c.past_spaces-self-inside.result (place_of c.self.inside.behind) c.in-Some.ensures.lex
     (cc (same, c.past_spaces-colon.ensures.lex)) (cc (same, c.byte_at-2.ensures.value, c.if-byte_at-ne58.false)) (cc (same, c.past_spaces-self-inside.ensures.lex))
     (sym c.may_begin.ensures ∙ c.if-not-may_begin.false)
