@@ -1,15 +1,17 @@
 -- The replies of commands, put together of what the calls gave.
-use Rattle.std.proofs.Common.{◌≡◌, ℕ, ℤ, Bool, true, false, List, Result, Ok, Err, map, take, refl, sym, ap, subst, ◌∙◌}
-use Rattle.std.specs.Prelude.{IfOk, if◌then◌else◌, ◌==◌}
+use Rattle.std.proofs.Common.{◌≡◌, ℕ, ℤ, Bool, true, false, List, [], ◌∷◌, Result, Ok, Err, map, take, refl, sym, ap, subst, ◌∙◌}
+use Rattle.std.specs.Prelude.{codes, IfOk, if◌then◌else◌, ◌==◌}
 use Rattle.std.proofs.lemmas.List.{take-map}
 use Rattle.bson_raw.specs.{TreeValue}
+use Rattle.bson_doc.specs.{put}
+use Rattle.doc_query.specs.{count_value}
 use Rattle.test_store.specs.declared.answer.Batch.TheVariants.{First}
 use Rattle.doc_query.specs.declared.failure.CommandError.{CommandError}
 use Rattle.doc_query.specs.declared.failure.Failure.{Failure}
 use Rattle.doc_query.specs.declared.failure.Failure.TheVariants.{Refused}
 use Rattle.doc_stages.specs.{after_batch, next_batch}
-use Rattle.command_parts.specs.{refusal_pairs}
-use Rattle.test_store.specs.Answers.{cursor_answer}
+use Rattle.command_parts.specs.{double_one, refusal_pairs}
+use Rattle.test_store.specs.Answers.{cursor_answer, put_any, written_pairs}
 use Rattle.test_store.specs.Commands.{IsCarriedOut, Reply, found_reply, left_of, settled}
 use Rattle.test_store.specs.Held.{NamespaceView, StoreView, namespace_text, opened, opened_id}
 use Rattle.test_store.specs.Selecting.{limited}
@@ -24,6 +26,11 @@ limited-map f k vs = cut-map f k (k == 0) vs
 pub left_of-map : {A B : Type 0} (f : A → B) (single : Bool) (vs : List A) → map f (left_of single vs) ≡ left_of single (map f vs)
 left_of-map f true vs = refl
 left_of-map f false vs = refl
+
+-- the answer of a write, filled field by field
+pub written : (n : ℕ) (vs : List TreeValue) → put (codes "ok") double_one (put_any (codes "writeErrors") vs ((codes "n", count_value n) ∷ [])) ≡ written_pairs n vs
+written n [] = refl
+written n (v ∷ vs) = refl
 
 pub found_answered : {E : Type 0} (s s' : StoreView) (n : NamespaceView) (all : List TreeValue) (count : ℕ) (single : Bool) (batch left : List TreeValue) (id : ℤ) (r : Result (List (List ℕ × TreeValue)) E)
     → batch ≡ next_batch count all → left ≡ left_of single (after_batch count all)

@@ -1,11 +1,6 @@
 -- A test of what the elements of a list show.
 use Rattle.std.proofs.Common.{◌≡◌, Bool, true, false, List, [], ◌∷◌, map, refl, ap}
-use Rattle.std.specs.Prelude.{◌||◌}
-use Rattle.std.specs.List.{filter, list_any}
-
-pub any_map : {X Y : Type 0} (f : X → Y) (p : Y → Bool) (xs : List X) → list_any (λ (x : X). p (f x)) xs ≡ list_any p (map f xs)
-any_map f p [] = refl
-any_map f p (x ∷ xs) = ap (λ (b : Bool). p (f x) || b) (any_map f p xs)
+use Rattle.std.specs.List.{filter}
 
 filter_one : {X Y : Type 0} (f : X → Y) (p : Y → Bool) (x : X) (xs : List X) (b : Bool) → p (f x) ≡ b → map f (filter (λ (z : X). p (f z)) xs) ≡ filter p (map f xs)
     → map f (filter (λ (z : X). p (f z)) (x ∷ xs)) ≡ filter p (map f (x ∷ xs))

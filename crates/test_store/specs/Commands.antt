@@ -249,13 +249,16 @@ killed_reply s k = record {
 abbrev pub kill_reply : StoreView → NamespaceView → List TreeValue → Reply
 kill_reply s n vs = killed_reply s (killing s n vs)
 
+abbrev pub kill_in : StoreView → NamespaceView → Tree → Result Reply CommandError
+kill_in s n fields =
+    and_then (or_error errors.Cursors (array_in (first_named (codes "cursors") fields))) (λ vs.
+    Ok (kill_reply s n vs))
+
 -- the answer of killCursors and what is held after it, or its error
 abbrev pub kill_cursors : StoreView → Tree → Result Reply CommandError
 kill_cursors s t =
     and_then (namespace_at (codes "killCursors") errors.KillCursors t) (λ n.
-    and_then (body_of t) (λ fields.
-    and_then (or_error errors.Cursors (array_in (first_named (codes "cursors") fields))) (λ vs.
-    Ok (kill_reply s n vs))))
+    and_then (body_of t) (λ fields. kill_in s n fields))
 
 -- ---- drop
 
@@ -352,13 +355,16 @@ created_by s n vs =
     else and_then (with_indexes vs (indexes_in n s.collections)) (λ is.
     Ok (created_reply s n is))
 
+abbrev pub created_in : StoreView → NamespaceView → Tree → Result Reply CommandError
+created_in s n fields =
+    and_then (or_error errors.Indexes (array_in (first_named (codes "indexes") fields))) (λ vs.
+    created_by s n vs)
+
 -- the answer of createIndexes and what is held after it, or its error
 abbrev pub create_indexes : StoreView → Tree → Result Reply CommandError
 create_indexes s t =
     and_then (namespace_at (codes "createIndexes") errors.CreateIndexes t) (λ n.
-    and_then (body_of t) (λ fields.
-    and_then (or_error errors.Indexes (array_in (first_named (codes "indexes") fields))) (λ vs.
-    created_by s n vs)))
+    and_then (body_of t) (λ fields. created_in s n fields))
 
 -- ---- listIndexes
 

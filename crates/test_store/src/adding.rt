@@ -1,17 +1,18 @@
 //! Collects the documents that may be added to those of a namespace, in which no two have one
 //! `_id`, and none has an array, a regex or undefined there.
 
-ghost use Rattle.std.specs.Prelude.{◌≡◌, ◌<◌, ◌≤◌, ◌^◌, [], IfOk, OnOk, Some, codes, length, map};
-ghost use Rattle.std.specs.Prelude.{option_map, pos, string_bytes};
+ghost use Rattle.std.specs.Prelude.{◌≡◌, ◌<◌, ◌≤◌, ◌^◌, [], IfOk, Ok, OnOk, Some, codes, length};
+ghost use Rattle.std.specs.Prelude.{map, option_map, pos, string_bytes};
 ghost use Rattle.bson_doc.specs.{put, value_of};
-ghost use Rattle.doc_query.specs.{inner, int32};
-ghost use Rattle.doc_update.specs.{has_error};
-ghost use Rattle.test_store.specs.Adding.{add_identified, adding_of, duplicate_error};
+ghost use Rattle.doc_query.specs.{inner, int32, text};
+ghost use Rattle.doc_update.specs.{has_error, write_error};
+ghost use Rattle.test_store.specs.Adding.{add_each, add_identified, adding_of, duplicate_error};
 ghost use Rattle.test_store.specs.Adding.{duplicate_words};
 ghost use Rattle.test_store.specs.Adding.{error_of, gathered, key_of};
 ghost use Rattle.test_store.specs.Held.{namespace_of};
 
 use crate::namespace::Namespace;
+use crate::values::{push, set_copy};
 use bson_doc::{Bson, Document};
 use doc_query::{count_value, set};
 use doc_update::{id_fault, id_in, identified, is_taken, write_error};
@@ -35,15 +36,36 @@ impl Adding {
     }
 }
 
+/// Appends the words of the error of a document whose `_id` is taken.
+fn push_duplicate(words: &mut String, namespace: Namespace<'_>) -> Result<(), AllocError>
+    requires { string_bytes words.old ≡ [] }
+    ensures { OnOk result
+        (string_bytes words.new ≡ duplicate_words (namespace_of namespace.entry)) }
+{
+    words
+        .push_str("E11000 duplicate key error collection: ")
+        .and(namespace.push_to(words))
+        .and(words.push_str(" index: _id_"))
+}
+
 /// Makes the words of the error of a document whose `_id` is taken.
 fn duplicate_words(alloc: Global, namespace: Namespace<'_>) -> Result<String, AllocError>
     ensures { IfOk result (λ s. string_bytes s ≡ duplicate_words (namespace_of namespace.entry)) }
 {
-    let text = namespace.to_text(alloc)?;
-    let mut words = String::from_str(alloc, "E11000 duplicate key error collection: ")?;
-    words.push_str(text.as_str())?;
-    words.push_str(" index: _id_")?;
-    Ok(words)
+    let mut words = String::new(alloc);
+    push_duplicate(&mut words, namespace).and(Ok(words))
+}
+
+/// Sets the field `_id` to a copy of this value, if there is one.
+fn set_key(alloc: Global, key: &mut Document, id: Option<&Bson>) -> Result<(), AllocError>
+    requires { key.old ≡ [] }
+    ensures { OnOk result
+        (inner key.new ≡ key_of (option_map (λ v. value_of v.now) id.entry)) }
+{
+    match id {
+        Some(id) => set_copy(alloc, key, "_id", id),
+        None => Ok(()),
+    }
 }
 
 /// Makes the document with the field `_id` of this value.
@@ -51,10 +73,21 @@ fn key_of(alloc: Global, id: Option<&Bson>) -> Result<Document, AllocError>
     ensures { IfOk result (λ d. inner d ≡ key_of (option_map (λ v. value_of v.now) id.entry)) }
 {
     let mut key = Document::new(alloc);
-    if let Some(id) = id {
-        set(alloc, &mut key, "_id", id.try_clone()?)?;
-    }
-    Ok(key)
+    set_key(alloc, &mut key, id).and(Ok(key))
+}
+
+/// Sets the field `name` to the document with the field `_id` of this value.
+fn set_key_in(
+    alloc: Global,
+    error: &mut Document,
+    name: &str,
+    id: Option<&Bson>,
+) -> Result<(), AllocError>
+    ensures { OnOk result
+        (error.new ≡ put name.now (key_of (option_map (λ v. value_of v.now) id.entry)) error.old) }
+{
+    let key = key_of(alloc, id)?;
+    set(alloc, error, name, Bson::Document(key))
 }
 
 /// Sets the fields that tell which `_id` is taken.
@@ -63,10 +96,22 @@ fn set_keys(alloc: Global, error: &mut Document, id: Option<&Bson>) -> Result<()
         ≡ put (codes "keyValue") (key_of (option_map (λ v. value_of v.now) id.entry))
         (put (codes "keyPattern") (key_of (Some (int32 (pos 1)))) error.old)) }
 {
-    let pattern = key_of(alloc, Some(&Bson::Int32(1)))?;
-    set(alloc, error, "keyPattern", Bson::Document(pattern))?;
-    let key = key_of(alloc, id)?;
-    set(alloc, error, "keyValue", Bson::Document(key))
+    set_key_in(alloc, error, "keyPattern", Some(&Bson::Int32(1))).and(set_key_in(
+        alloc, error, "keyValue", id,
+    ))
+}
+
+/// Sets the words of the error of a document whose `_id` is taken.
+fn set_words(
+    alloc: Global,
+    error: &mut Document,
+    namespace: Namespace<'_>,
+) -> Result<(), AllocError>
+    ensures { OnOk result (error.new
+        ≡ put (codes "errmsg") (text (duplicate_words (namespace_of namespace.entry))) error.old) }
+{
+    let words = duplicate_words(alloc, namespace)?;
+    set(alloc, error, "errmsg", Bson::String(words))
 }
 
 /// Sets the fields of the error of the document at `index`, whose `_id`, which this is, is taken.
@@ -82,11 +127,10 @@ fn set_duplicate(
     ensures { OnOk result (inner error.new ≡ duplicate_error index (namespace_of namespace.entry)
         (option_map (λ v. value_of v.now) id.entry)) }
 {
-    set(alloc, error, "index", count_value(index))?;
-    set(alloc, error, "code", Bson::Int32(11000))?;
-    set_keys(alloc, error, id)?;
-    let words = duplicate_words(alloc, namespace)?;
-    set(alloc, error, "errmsg", Bson::String(words))
+    set(alloc, error, "index", count_value(index))
+        .and(set(alloc, error, "code", Bson::Int32(11000)))
+        .and(set_keys(alloc, error, id))
+        .and(set_words(alloc, error, namespace))
 }
 
 /// Makes the error of the document at `index`, whose `_id`, which this is, is taken.
@@ -101,8 +145,26 @@ fn duplicate_error(
         (option_map (λ v. value_of v.now) id.entry)) }
 {
     let mut error = Document::new(alloc);
-    set_duplicate(alloc, &mut error, index, namespace, id)?;
-    Ok(error)
+    set_duplicate(alloc, &mut error, index, namespace, id).and(Ok(error))
+}
+
+/// Makes the error of the document at `index` whose `_id` can't be one, which these words say.
+fn fault_error(alloc: Global, index: usize, words: &str) -> Result<Document, AllocError>
+    requires { index < 2 ^ 63 }
+    ensures { IfOk result (λ d. inner d ≡ write_error index (pos 2) words.now) }
+{
+    let words = String::from_str(alloc, words)?;
+    write_error(alloc, index, 2, words)
+}
+
+/// Returns an error that was made, as that of a document.
+fn told(error: Result<Document, AllocError>) -> Result<Option<Document>, AllocError>
+    ensures { IfOk result (λ told. (d : Document) × (told ≡ Some d) × (error ≡ Ok d)) }
+{
+    match error {
+        Ok(error) => Ok(Some(error)),
+        Err(refused) => Err(refused),
+    }
 }
 
 /// Makes the error of the document at `index` whose `_id` this is, if the `_id` can't be one, or is
@@ -121,13 +183,10 @@ fn error_of(
         index (option_map (λ v. value_of v.now) id.entry)) }
 {
     if let Some(words) = id_fault(id) {
-        let words = String::from_str(alloc, words)?;
-        let error = write_error(alloc, index, 2, words)?;
-        return Ok(Some(error));
+        return told(fault_error(alloc, index, words));
     }
     if is_taken(id, held) || is_taken(id, added) {
-        let error = duplicate_error(alloc, index, namespace, id)?;
-        return Ok(Some(error));
+        return told(duplicate_error(alloc, index, namespace, id));
     }
     Ok(None)
 }
@@ -148,15 +207,38 @@ fn add(
     let document = identified(alloc, document, held, &adding.added)?;
     let id = id_in(&document);
     match error_of(alloc, namespace, held, &adding.added, index, id) {
-        Ok(None) => adding.added.push(document)?,
+        Ok(None) => push(&mut adding.added, document),
         Ok(Some(error)) => {
             drop(document);
-            adding.errors.push(Bson::Document(error))?;
+            push(&mut adding.errors, Bson::Document(error))
         }
         Err(refused) => {
             drop(document);
-            return Err(refused);
+            Err(refused)
         }
+    }
+}
+
+/// Adds documents one after another, except those that can't be added. Where they are ordered,
+/// nothing follows the first error.
+fn add_each(
+    alloc: Global,
+    is_ordered: bool,
+    namespace: Namespace<'_>,
+    held: &[Bson],
+    documents: &[Bson],
+    adding: &mut Adding,
+) -> Result<(), AllocError>
+    requires { length documents.now ≤ 100_000 }
+    ensures { OnOk result (adding_of adding.new
+        ≡ add_each is_ordered (namespace_of namespace.entry) (map value_of held.now) 0
+        (map value_of documents.now) (adding_of adding.old)) }
+{
+    for (index, document) in documents.iter().enumerate() {
+        if is_ordered && adding.has_error() {
+            return Ok(());
+        }
+        add(alloc, namespace, held, index, document, adding)?;
     }
     Ok(())
 }
@@ -178,11 +260,5 @@ pub fn gather(
         added: Vec::new(alloc),
         errors: Vec::new(alloc),
     };
-    for (index, document) in documents.iter().enumerate() {
-        if is_ordered && adding.has_error() {
-            return Ok(adding);
-        }
-        add(alloc, namespace, held, index, document, &mut adding)?;
-    }
-    Ok(adding)
+    add_each(alloc, is_ordered, namespace, held, documents, &mut adding).and(Ok(adding))
 }

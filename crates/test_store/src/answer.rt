@@ -1,8 +1,10 @@
 //! Makes the answers that several commands give.
 
-ghost use Rattle.std.specs.Prelude.{◌≡◌, ◌<◌, ◌^◌, [], IfOk, OnOk, codes, map};
+ghost use Rattle.std.specs.Prelude.{◌≡◌, ◌<◌, ◌^◌, ◌∷◌, [], IfOk, MatchResult, Ok, OnOk, codes};
+ghost use Rattle.std.specs.Prelude.{is_err, map, true};
 ghost use Rattle.bson_doc.specs.{put, value_of};
-ghost use Rattle.doc_query.specs.{array, text};
+ghost use Rattle.doc_query.specs.{array, inner, text};
+ghost use Rattle.command_parts.specs.{ok_alone};
 ghost use Rattle.test_store.specs.Answers.{batch_name, counted_pairs, cursor_answer, cursor_pairs};
 ghost use Rattle.test_store.specs.Answers.{put_any, written_pairs};
 ghost use Rattle.test_store.specs.Held.{namespace_of, namespace_text};
@@ -10,7 +12,7 @@ ghost use Rattle.test_store.specs.Held.{namespace_of, namespace_text};
 use crate::namespace::Namespace;
 use bson_doc::{Array, Bson, Document};
 use command_parts::set_ok;
-use doc_query::{count_value, set};
+use doc_query::{Failure, count_value, set};
 use std::alloc::{AllocError, Global};
 
 /// Which batch of a cursor an answer has.
@@ -31,6 +33,17 @@ impl Batch {
             Batch::First => "firstBatch",
             Batch::Next => "nextBatch",
         }
+    }
+}
+
+/// Returns the answer, unless memory ran out.
+pub fn in_memory(answer: Result<Document, AllocError>) -> Result<Document, Failure>
+    ensures { MatchResult result (λ d. answer ≡ Ok d)
+        (λ e. (is_err answer ≡ true) × (e ≡ Failure.OutOfMemory)) }
+{
+    match answer {
+        Ok(answer) => Ok(answer),
+        Err(_) => Err(Failure::OutOfMemory),
     }
 }
 
@@ -60,6 +73,7 @@ pub fn set_any(
     ensures { OnOk result (answer.new ≡ put_any name.now (map value_of values.items) answer.old) }
 {
     if values.is_empty() {
+        drop(values);
         return Ok(());
     }
     set_array(alloc, answer, name, values)
@@ -80,19 +94,27 @@ pub fn set_namespace(
 
 // ---- answers with a number of documents
 
+/// Sets the fields of the answer with a number of documents in its field `n`.
+fn set_counted(alloc: Global, answer: &mut Document, count: usize) -> Result<(), AllocError>
+    requires count { count < 2 ^ 63 }
+    requires none { answer.old ≡ [] }
+    ensures { OnOk result (answer.new ≡ counted_pairs count) }
+{
+    set(alloc, answer, "n", count_value(count)).and(set_ok(alloc, answer))
+}
+
 /// Makes the answer with a number of documents in its field `n`.
 pub fn counted_answer(alloc: Global, count: usize) -> Result<Document, AllocError>
     requires { count < 2 ^ 63 }
     ensures { IfOk result (λ d. d ≡ counted_pairs count) }
 {
     let mut answer = Document::new(alloc);
-    set(alloc, &mut answer, "n", count_value(count))?;
-    set_ok(alloc, &mut answer)?;
-    Ok(answer)
+    set_counted(alloc, &mut answer, count).and(Ok(answer))
 }
 
 /// Sets the fields of the answer with a number of documents in its field `n`, and the errors of
 /// others, if there are any.
+#[tactic(auto, using(crate::proofs::Replies::written))]
 fn set_written(
     alloc: Global,
     answer: &mut Document,
@@ -103,12 +125,9 @@ fn set_written(
     requires none { answer.old ≡ [] }
     ensures { OnOk result (answer.new ≡ written_pairs count (map value_of errors.items)) }
 {
-    set(alloc, answer, "n", count_value(count))?;
-    if errors.is_empty() {
-        return set_ok(alloc, answer);
-    }
-    set_array(alloc, answer, "writeErrors", errors)?;
-    set_ok(alloc, answer)
+    set(alloc, answer, "n", count_value(count))
+        .and(set_any(alloc, answer, "writeErrors", errors))
+        .and(set_ok(alloc, answer))
 }
 
 /// Makes the answer that says how many documents a command wrote, and why others, or statements,
@@ -122,8 +141,7 @@ pub fn written_answer(
     ensures { IfOk result (λ d. d ≡ written_pairs count (map value_of errors.items)) }
 {
     let mut answer = Document::new(alloc);
-    set_written(alloc, &mut answer, count, errors)?;
-    Ok(answer)
+    set_written(alloc, &mut answer, count, errors).and(Ok(answer))
 }
 
 // ---- answers with a batch of documents
@@ -142,9 +160,9 @@ fn set_cursor(
     ensures { OnOk result (cursor.new ≡ cursor_pairs which (map value_of batch.items) id
         (namespace_text (namespace_of namespace.entry))) }
 {
-    set_array(alloc, cursor, which.name(), batch)?;
-    set(alloc, cursor, "id", Bson::Int64(id))?;
-    set_namespace(alloc, cursor, namespace)
+    set_array(alloc, cursor, which.name(), batch)
+        .and(set(alloc, cursor, "id", Bson::Int64(id)))
+        .and(set_namespace(alloc, cursor, namespace))
 }
 
 /// Makes the field `cursor` of an answer.
@@ -159,8 +177,15 @@ fn cursor_document(
         (namespace_text (namespace_of namespace.entry))) }
 {
     let mut cursor = Document::new(alloc);
-    set_cursor(alloc, &mut cursor, which, batch, id, namespace)?;
-    Ok(cursor)
+    set_cursor(alloc, &mut cursor, which, batch, id, namespace).and(Ok(cursor))
+}
+
+/// Sets the fields of the answer with this field `cursor`.
+fn set_answer(alloc: Global, answer: &mut Document, cursor: Document) -> Result<(), AllocError>
+    requires { answer.old ≡ [] }
+    ensures { OnOk result (answer.new ≡ (codes "cursor", inner cursor) ∷ ok_alone) }
+{
+    set(alloc, answer, "cursor", Bson::Document(cursor)).and(set_ok(alloc, answer))
 }
 
 /// Makes the answer with a batch of documents, the id of the cursor that has more of them (0 if
@@ -177,7 +202,5 @@ pub fn cursor_answer(
 {
     let cursor = cursor_document(alloc, which, batch, id, namespace)?;
     let mut answer = Document::new(alloc);
-    set(alloc, &mut answer, "cursor", Bson::Document(cursor))?;
-    set_ok(alloc, &mut answer)?;
-    Ok(answer)
+    set_answer(alloc, &mut answer, cursor).and(Ok(answer))
 }

@@ -15,13 +15,14 @@ mod list_databases;
 mod list_indexes;
 mod update;
 
-ghost use Rattle.std.specs.Prelude.{◌≡◌, ◌≢◌, IfOk, OnErr};
+ghost use Rattle.std.specs.Prelude.{◌≡◌, ◌≢◌, ◌++◌, IfOk, OnErr, string_bytes};
 ghost use Rattle.wire_msg.specs.{Carries, Content};
 ghost use Rattle.command_parts.specs.{first_name};
 ghost use Rattle.test_store.specs.Commands.{IsCarriedOut, command_of, reply_to, run};
 ghost use Rattle.test_store.specs.Commands.{settled, unknown_pairs, unread_pairs};
 ghost use Rattle.test_store.specs.Held.{store_of};
 
+use crate::answer::in_memory;
 use crate::options::first_unread;
 use crate::store::Store;
 use aggregate::aggregate;
@@ -97,14 +98,26 @@ fn command_of(name: &str) -> Command
     }
 }
 
+/// Returns a name between words.
+fn name_between(alloc: Global, before: &str, name: &str, after: &str) -> Result<String, AllocError>
+    ensures { IfOk result (λ s. string_bytes s ≡ before.now ++ name.now ++ after.now) }
+{
+    let mut words = String::new(alloc);
+    words
+        .push_str(before)
+        .and(words.push_str(name))
+        .and(words.push_str(after))
+        .and(Ok(words))
+}
+
 /// Makes the answer that says that no command has this name.
 fn unknown_command(alloc: Global, name: &str) -> Result<Document, AllocError>
     ensures { IfOk result (λ d. d ≡ unknown_pairs name.now) }
 {
-    let mut words = String::from_str(alloc, "no such command: '")?;
-    words.push_str(name)?;
-    words.push_str("'")?;
-    error_answer(alloc, words.as_str(), 59, "CommandNotFound")
+    let words = name_between(alloc, "no such command: '", name, "'")?;
+    let answer = error_answer(alloc, words.as_str(), 59, "CommandNotFound");
+    drop(words);
+    answer
 }
 
 /// Carries out a command, and returns its answer.
@@ -122,10 +135,10 @@ fn run(command: Command, store: &mut Store, payload: Payload<'_>) -> Result<Docu
     let alloc = store.allocator();
     let body = payload.body();
     match command {
-        Command::Hello => Ok(hello(alloc, false)?),
-        Command::LegacyHello => Ok(hello(alloc, true)?),
-        Command::BuildInfo => Ok(build_info(alloc)?),
-        Command::Ping | Command::EndSessions => Ok(ok_alone(alloc)?),
+        Command::Hello => in_memory(hello(alloc, false)),
+        Command::LegacyHello => in_memory(hello(alloc, true)),
+        Command::BuildInfo => in_memory(build_info(alloc)),
+        Command::Ping | Command::EndSessions => in_memory(ok_alone(alloc)),
         Command::Insert => insert(alloc, store, payload),
         Command::Find => find(alloc, store, body),
         Command::GetMore => get_more(alloc, store, body),
@@ -140,7 +153,7 @@ fn run(command: Command, store: &mut Store, payload: Payload<'_>) -> Result<Docu
         Command::ListDatabases => list_databases(alloc, store, body),
         Command::CreateIndexes => create_indexes(alloc, store, body),
         Command::ListIndexes => list_indexes(alloc, store, body),
-        Command::Unknown => Ok(unknown_command(alloc, name_of(body))?),
+        Command::Unknown => in_memory(unknown_command(alloc, name_of(body))),
     }
 }
 
@@ -149,10 +162,10 @@ fn run(command: Command, store: &mut Store, payload: Payload<'_>) -> Result<Docu
 fn unread_field(alloc: Global, name: &str) -> Result<Document, AllocError>
     ensures { IfOk result (λ d. d ≡ unread_pairs name.now) }
 {
-    let mut words = String::from_str(alloc, "the field '")?;
-    words.push_str(name)?;
-    words.push_str("' is not carried out")?;
-    error_answer(alloc, words.as_str(), 238, "NotImplemented")
+    let words = name_between(alloc, "the field '", name, "' is not carried out")?;
+    let answer = error_answer(alloc, words.as_str(), 238, "NotImplemented");
+    drop(words);
+    answer
 }
 
 /// Carries out a command, and returns its answer, or that to its error.

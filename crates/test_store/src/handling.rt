@@ -14,7 +14,11 @@ impl Handler for Store {
 
     fn respond(&mut self, request: &Request<'_>, answers: &mut Answers) -> Result<(), HandlerStop> {
         match answer_to(self, request.payload) {
-            Ok(answer) => put_answer(&answer, answers),
+            Ok(answer) => {
+                let put = put_answer(&answer, answers);
+                drop(answer);
+                put
+            }
             Err(_) => Err(HandlerStop::OutOfMemory),
         }
     }

@@ -12,6 +12,7 @@ ghost use Rattle.test_store.specs.Indexes.{with_asked, with_index};
 ghost use Rattle.test_store.specs.Indexes.{with_indexes};
 ghost use Rattle.test_store.specs.Options.{asks};
 
+use crate::values::{push, set_copy};
 use bson_doc::{Bson, Document};
 use command_parts::set_text;
 use doc_query::{CommandError, Failure, field, is_equal, set};
@@ -32,17 +33,37 @@ fn id_key(alloc: Global) -> Result<Bson, AllocError>
     ensures { IfOk result (λ key. value_of key ≡ id_index.key) }
 {
     let mut key = Document::new(alloc);
-    set(alloc, &mut key, "_id", Bson::Int32(1))?;
-    Ok(Bson::Document(key))
+    set(alloc, &mut key, "_id", Bson::Int32(1)).and(Ok(Bson::Document(key)))
 }
 
-/// Makes the index on `_id`.
-fn id_index(alloc: Global) -> Result<Index, AllocError>
-    ensures { IfOk result (λ i. index_view i ≡ id_index) }
+/// Makes an index with copies of this name and of this key.
+fn index_with(alloc: Global, name: &str, key: &Bson) -> Result<Index, AllocError>
+    ensures { IfOk result
+        (λ i. index_view i ≡ record { name = name.now; key = value_of key.now }) }
 {
-    let name = String::from_str(alloc, "_id_")?;
-    let key = id_key(alloc)?;
-    Ok(Index { name, key })
+    let name = String::from_str(alloc, name)?;
+    match key.try_clone() {
+        Ok(key) => Ok(Index { name, key }),
+        Err(refused) => {
+            drop(name);
+            Err(refused)
+        }
+    }
+}
+
+/// Appends the index with this name and this key.
+fn push_index(
+    alloc: Global,
+    indexes: &mut Vec<Index>,
+    name: &str,
+    key: &Bson,
+) -> Result<(), AllocError>
+    ensures { OnOk result (map index_view indexes.new.items ≡ map index_view indexes.old.items
+        ++ record { name = name.now; key = value_of key.now } ∷ []) }
+{
+    let index = index_with(alloc, name, key)?;
+    indexes.push(index)?;
+    Ok(())
 }
 
 /// Makes the indexes of a new collection, which has the one on `_id`.
@@ -53,10 +74,11 @@ fn id_index(alloc: Global) -> Result<Index, AllocError>
 pub fn first_indexes(alloc: Global) -> Result<Vec<Index>, AllocError>
     ensures { IfOk result (λ is. map index_view is.items ≡ id_index ∷ []) }
 {
-    let index = id_index(alloc)?;
+    let key = id_key(alloc)?;
     let mut indexes = Vec::new(alloc);
-    indexes.push(index)?;
-    Ok(indexes)
+    let pushed = push_index(alloc, &mut indexes, "_id_", &key);
+    drop(key);
+    pushed.and(Ok(indexes))
 }
 
 /// Returns true if this is a field of an index that can be made.
@@ -129,14 +151,24 @@ fn parts_of(value: &Bson) -> Option<(&str, &Bson)>
 fn any_has_name(indexes: &[Index], name: &str) -> bool
     ensures { result ≡ list_any (has_name name.now) (map index_view indexes.now) }
 {
-    indexes.iter().any(|index| index.name.as_str() == name)
+    for index in indexes {
+        if index.name.as_str() == name {
+            return true;
+        }
+    }
+    false
 }
 
 /// Returns true if one of the indexes has this key.
 fn any_has_key(indexes: &[Index], key: &Bson) -> bool
     ensures { result ≡ list_any (has_key (value_of key.now)) (map index_view indexes.now) }
 {
-    indexes.iter().any(|index| is_equal(&index.key, key))
+    for index in indexes {
+        if is_equal(&index.key, key) {
+            return true;
+        }
+    }
+    false
 }
 
 /// Returns true if an index with this name and this key is one of the indexes.
@@ -145,7 +177,12 @@ fn is_held(indexes: &[Index], name: &str, key: &Bson) -> bool
         (is_index (record { name = name.now; key = value_of key.now }))
         (map index_view indexes.now) }
 {
-    indexes.iter().any(|other| other.name.as_str() == name && is_equal(&other.key, key))
+    for index in indexes {
+        if index.name.as_str() == name && is_equal(&index.key, key) {
+            return true;
+        }
+    }
+    false
 }
 
 /// Returns true if this key is that of the index on `_id`.
@@ -186,22 +223,6 @@ fn is_added(alloc: Global, indexes: &[Index], name: &str, key: &Bson) -> Result<
     Ok(true)
 }
 
-/// Appends the index with this name and this key.
-fn push_index(
-    alloc: Global,
-    indexes: &mut Vec<Index>,
-    name: &str,
-    key: &Bson,
-) -> Result<(), AllocError>
-    ensures { OnOk result (map index_view indexes.new.items ≡ map index_view indexes.old.items
-        ++ record { name = name.now; key = value_of key.now } ∷ []) }
-{
-    let name = String::from_str(alloc, name)?;
-    let key = key.try_clone()?;
-    indexes.push(Index { name, key })?;
-    Ok(())
-}
-
 /// Adds the index that a value asks for, unless it is there.
 fn add_index(alloc: Global, asked: &Bson, indexes: &mut Vec<Index>) -> Result<(), Failure>
     ensures ok { OnOk result
@@ -237,13 +258,15 @@ pub fn add_indexes(alloc: Global, asked: &[Bson], indexes: &mut Vec<Index>) -> R
     Ok(())
 }
 
-/// Copies an index.
-fn copy(alloc: Global, index: &Index) -> Result<Index, AllocError>
-    ensures { IfOk result (λ i. index_view i ≡ index_view index.now) }
+/// Appends copies of indexes.
+fn push_copies(alloc: Global, indexes: &[Index], copies: &mut Vec<Index>) -> Result<(), AllocError>
+    ensures { OnOk result (map index_view copies.new.items
+        ≡ map index_view copies.old.items ++ map index_view indexes.now) }
 {
-    let name = String::from_str(alloc, index.name.as_str())?;
-    let key = index.key.try_clone()?;
-    Ok(Index { name, key })
+    for index in indexes {
+        push_index(alloc, copies, index.name.as_str(), &index.key)?;
+    }
+    Ok(())
 }
 
 /// Copies indexes.
@@ -255,10 +278,7 @@ pub fn copies(alloc: Global, indexes: &[Index]) -> Result<Vec<Index>, AllocError
     ensures { IfOk result (λ is. map index_view is.items ≡ map index_view indexes.now) }
 {
     let mut copies = Vec::new(alloc);
-    for index in indexes {
-        copies.push(copy(alloc, index)?)?;
-    }
-    Ok(copies)
+    push_copies(alloc, indexes, &mut copies).and(Ok(copies))
 }
 
 /// Sets the fields of the listing of an index.
@@ -266,10 +286,9 @@ fn set_listing(alloc: Global, listing: &mut Document, index: &Index) -> Result<(
     requires { listing.old ≡ [] }
     ensures { OnOk result (inner listing.new ≡ index_listing (index_view index.now)) }
 {
-    set(alloc, listing, "v", Bson::Int32(2))?;
-    let key = index.key.try_clone()?;
-    set(alloc, listing, "key", key)?;
-    set_text(alloc, listing, "name", index.name.as_str())
+    set(alloc, listing, "v", Bson::Int32(2))
+        .and(set_copy(alloc, listing, "key", &index.key))
+        .and(set_text(alloc, listing, "name", index.name.as_str()))
 }
 
 /// Makes the listing of an index.
@@ -277,8 +296,31 @@ fn listing(alloc: Global, index: &Index) -> Result<Document, AllocError>
     ensures { IfOk result (λ d. inner d ≡ index_listing (index_view index.now)) }
 {
     let mut listing = Document::new(alloc);
-    set_listing(alloc, &mut listing, index)?;
-    Ok(listing)
+    set_listing(alloc, &mut listing, index).and(Ok(listing))
+}
+
+/// Appends the listing of an index.
+fn push_listing(alloc: Global, index: &Index, listings: &mut Vec<Bson>) -> Result<(), AllocError>
+    ensures { OnOk result (map value_of listings.new.items
+        ≡ map value_of listings.old.items ++ index_listing (index_view index.now) ∷ []) }
+{
+    let listing = listing(alloc, index)?;
+    push(listings, Bson::Document(listing))
+}
+
+/// Appends the listings of indexes, in order.
+fn push_listings(
+    alloc: Global,
+    indexes: &[Index],
+    listings: &mut Vec<Bson>,
+) -> Result<(), AllocError>
+    ensures { OnOk result (map value_of listings.new.items
+        ≡ map value_of listings.old.items ++ map index_listing (map index_view indexes.now)) }
+{
+    for index in indexes {
+        push_listing(alloc, index, listings)?;
+    }
+    Ok(())
 }
 
 /// Makes the listings of indexes, in order.
@@ -291,9 +333,5 @@ pub fn index_listings(alloc: Global, indexes: &[Index]) -> Result<Vec<Bson>, All
         (λ vs. map value_of vs.items ≡ map index_listing (map index_view indexes.now)) }
 {
     let mut listings = Vec::new(alloc);
-    for index in indexes {
-        let listing = listing(alloc, index)?;
-        listings.push(Bson::Document(listing))?;
-    }
-    Ok(listings)
+    push_listings(alloc, indexes, &mut listings).and(Ok(listings))
 }

@@ -18,5 +18,6 @@ mod namespace;
 mod options;
 mod selection;
 mod store;
+mod values;
 
 pub use store::Store;

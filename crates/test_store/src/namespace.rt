@@ -1,6 +1,6 @@
 //! Names a database and a collection in it: a namespace.
 
-ghost use Rattle.std.specs.Prelude.{◌≡◌, ◌++◌, codes, IfOk, string_bytes};
+ghost use Rattle.std.specs.Prelude.{◌≡◌, ◌++◌, codes, IfOk, OnOk, string_bytes};
 ghost use Rattle.test_store.specs.Held.{is_same_namespace, namespace_buf, namespace_of};
 ghost use Rattle.test_store.specs.Held.{namespace_text};
 
@@ -34,11 +34,30 @@ impl Namespace<'_> {
         ensures { IfOk result (λ b. namespace_buf b ≡ namespace_of self.entry) }
     {
         let database = String::from_str(alloc, self.database)?;
-        let collection = String::from_str(alloc, self.collection)?;
-        Ok(NamespaceBuf {
-            database,
-            collection,
-        })
+        match String::from_str(alloc, self.collection) {
+            Ok(collection) => Ok(NamespaceBuf {
+                database,
+                collection,
+            }),
+            Err(refused) => {
+                drop(database);
+                Err(refused)
+            }
+        }
+    }
+
+    /// Appends the two names with a full stop between them.
+    ///
+    /// # Errors
+    ///
+    /// Returns `AllocError` if memory runs out.
+    pub fn push_to(self, text: &mut String) -> Result<(), AllocError>
+        ensures { OnOk result (string_bytes text.new
+            ≡ string_bytes text.old ++ namespace_text (namespace_of self.entry)) }
+    {
+        text.push_str(self.database)
+            .and(text.push_str("."))
+            .and(text.push_str(self.collection))
     }
 
     /// Returns the two names with a full stop between them.
@@ -49,10 +68,8 @@ impl Namespace<'_> {
     pub fn to_text(self, alloc: Global) -> Result<String, AllocError>
         ensures { IfOk result (λ s. string_bytes s ≡ namespace_text (namespace_of self.entry)) }
     {
-        let mut text = String::from_str(alloc, self.database)?;
-        text.push_str(".")?;
-        text.push_str(self.collection)?;
-        Ok(text)
+        let mut text = String::new(alloc);
+        self.push_to(&mut text).and(Ok(text))
     }
 }
 

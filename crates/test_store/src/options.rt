@@ -1,7 +1,7 @@
 //! Tells which fields and document sequences a command carries out. A command with any other one is
 //! refused by its name, since its answer would be another one than was asked for.
 
-ghost use Rattle.std.specs.Prelude.{◌≡◌, MatchOption, None, Some};
+ghost use Rattle.std.specs.Prelude.{◌≡◌, ◌||◌, MatchOption, None, Some};
 ghost use Rattle.bson_elem.specs.{Spells, Tree};
 ghost use Rattle.bson_raw.specs.{Shows, TreeValue, document_bytes};
 ghost use Rattle.wire_msg.specs.{Carries, Content};
@@ -137,29 +137,35 @@ fn is_databases_field(name: &str) -> bool
     )
 }
 
+/// Returns true if a command carries out this field of its own, or gives one answer whatever the
+/// field is.
+fn reads_own(command: Command, name: &str) -> bool
+    ensures { reads command name.now ≡ (result || is_general name.now) }
+{
+    match command {
+        Command::Insert => is_insert_field(name),
+        Command::Find => is_find_field(name),
+        Command::GetMore => is_more_field(name),
+        Command::Delete => is_delete_field(name),
+        Command::Update => is_update_field(name),
+        Command::Count => is_count_field(name),
+        Command::Aggregate => is_aggregate_field(name),
+        Command::KillCursors => matches!(name, "killCursors" | "cursors"),
+        Command::Drop => matches!(name, "drop"),
+        Command::DropDatabase => matches!(name, "dropDatabase"),
+        Command::ListCollections => is_list_field(name),
+        Command::ListDatabases => is_databases_field(name),
+        Command::CreateIndexes => matches!(name, "createIndexes" | "indexes"),
+        Command::ListIndexes => matches!(name, "listIndexes" | "cursor"),
+        _ => true,
+    }
+}
+
 /// Returns true if a command carries out this field, or gives one answer whatever the field is.
 fn reads(command: Command, name: &str) -> bool
     ensures { result ≡ reads command name.now }
 {
-    match command {
-        Command::Insert => is_insert_field(name) || is_general(name),
-        Command::Find => is_find_field(name) || is_general(name),
-        Command::GetMore => is_more_field(name) || is_general(name),
-        Command::Delete => is_delete_field(name) || is_general(name),
-        Command::Update => is_update_field(name) || is_general(name),
-        Command::Count => is_count_field(name) || is_general(name),
-        Command::Aggregate => is_aggregate_field(name) || is_general(name),
-        Command::KillCursors => name == "killCursors" || name == "cursors" || is_general(name),
-        Command::Drop => name == "drop" || is_general(name),
-        Command::DropDatabase => name == "dropDatabase" || is_general(name),
-        Command::ListCollections => is_list_field(name) || is_general(name),
-        Command::ListDatabases => is_databases_field(name) || is_general(name),
-        Command::CreateIndexes => {
-            name == "createIndexes" || name == "indexes" || is_general(name)
-        }
-        Command::ListIndexes => name == "listIndexes" || name == "cursor" || is_general(name),
-        _ => true,
-    }
+    reads_own(command, name) || is_general(name)
 }
 
 /// Returns true if a field of such a document is carried out, or never changes the answer.
@@ -234,9 +240,9 @@ fn reads_sequence(command: Command, identifier: &str) -> bool
     ensures { result ≡ reads_sequence command identifier.now }
 {
     match command {
-        Command::Insert => identifier == "documents",
-        Command::Update => identifier == "updates",
-        Command::Delete => identifier == "deletes",
+        Command::Insert => matches!(identifier, "documents"),
+        Command::Update => matches!(identifier, "updates"),
+        Command::Delete => matches!(identifier, "deletes"),
         _ => false,
     }
 }

@@ -58,15 +58,27 @@ pub fn selection_in<'a>(
 {
     let namespace = namespace_field(body, name, error)?;
     let filter = filter_field(alloc, body, filter)?;
-    let keys = sort_field(alloc, body)?;
-    let (skip, limit) = bounds_in(body)?;
-    Ok(Selection {
-        namespace,
-        filter,
-        keys,
-        skip,
-        limit,
-    })
+    let keys = match sort_field(alloc, body) {
+        Ok(keys) => keys,
+        Err(failure) => {
+            drop(filter);
+            return Err(failure);
+        }
+    };
+    match bounds_in(body) {
+        Ok((skip, limit)) => Ok(Selection {
+            namespace,
+            filter,
+            keys,
+            skip,
+            limit,
+        }),
+        Err(error) => {
+            drop(filter);
+            drop(keys);
+            Err(Failure::Refused(error))
+        }
+    }
 }
 
 /// Removes the documents after the first ones, of which there are `limit`, unless `limit` is 0.
@@ -106,6 +118,5 @@ pub fn selected(
 {
     let documents = store.documents(selection.namespace);
     let mut found = found_in(alloc, &selection.filter, documents)?;
-    arrange(selection, &mut found)?;
-    Ok(found)
+    arrange(selection, &mut found).and(Ok(found))
 }

@@ -68,7 +68,12 @@ fn index_of(collections: &[Collection], namespace: Namespace<'_>) -> Option<usiz
 pub(crate) fn has_database(collections: &[Collection], database: &str) -> bool
     ensures { result ≡ has_database database.now (map collection_of collections.now) }
 {
-    collections.iter().any(|collection| collection.namespace.database.as_str() == database)
+    for collection in collections {
+        if collection.namespace.database.as_str() == database {
+            return true;
+        }
+    }
+    false
 }
 
 impl Store {
@@ -115,13 +120,21 @@ impl Store {
             ((store_of self.new).collections ≡ (store_of self.old).collections) }
         ensures cursors { (store_of self.new).cursors ≡ (store_of self.old).cursors }
     {
-        let namespace = namespace.to_buf(self.allocator())?;
-        self.collections.push(Collection {
-            namespace,
-            indexes,
-            documents,
-        })?;
-        Ok(())
+        match namespace.to_buf(self.allocator()) {
+            Ok(namespace) => {
+                self.collections.push(Collection {
+                    namespace,
+                    indexes,
+                    documents,
+                })?;
+                Ok(())
+            }
+            Err(refused) => {
+                drop(indexes);
+                drop(documents);
+                Err(refused)
+            }
+        }
     }
 
     /// Inserts documents into a namespace, after those that are there, and makes its collection if
@@ -139,11 +152,18 @@ impl Store {
         ensures cursors { (store_of self.new).cursors ≡ (store_of self.old).cursors }
     {
         match index_of(&self.collections, namespace) {
-            Some(i) => self.collections[i].documents.append(&mut documents),
-            None => {
-                let indexes = first_indexes(self.allocator())?;
-                self.push_collection(namespace, indexes, documents)
+            Some(i) => {
+                let appended = self.collections[i].documents.append(&mut documents);
+                drop(documents);
+                appended
             }
+            None => match first_indexes(self.allocator()) {
+                Ok(indexes) => self.push_collection(namespace, indexes, documents),
+                Err(refused) => {
+                    drop(documents);
+                    Err(refused)
+                }
+            },
         }
     }
 
@@ -165,6 +185,7 @@ impl Store {
         ensures cursors { (store_of self.new).cursors ≡ (store_of self.old).cursors }
     {
         if documents.is_empty() {
+            drop(documents);
             return Ok(());
         }
         self.insert(namespace, documents)
@@ -293,14 +314,23 @@ impl Store {
         ensures collections { (store_of self.new).collections ≡ (store_of self.old).collections }
     {
         if left.is_empty() {
+            drop(left);
             return Ok(0);
         }
         let Some(id) = FIRST_CURSOR_ID.checked_add(self.cursors.len() as i64) else {
+            drop(left);
             return Err(AllocError);
         };
-        let namespace = namespace.to_buf(self.allocator())?;
-        self.cursors.push(Cursor { namespace, left })?;
-        Ok(id)
+        match namespace.to_buf(self.allocator()) {
+            Ok(namespace) => {
+                self.cursors.push(Cursor { namespace, left })?;
+                Ok(id)
+            }
+            Err(refused) => {
+                drop(left);
+                Err(refused)
+            }
+        }
     }
 
     /// Returns the index of the open cursor with this id and this namespace.

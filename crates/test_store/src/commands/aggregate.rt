@@ -8,6 +8,7 @@ ghost use Rattle.test_store.specs.Commands.{IsCarriedOut, aggregate, aggregate_r
 ghost use Rattle.test_store.specs.Fields.{first_size};
 ghost use Rattle.test_store.specs.Held.{namespace_of, store_of};
 
+use crate::answer::in_memory;
 use crate::commands::find::answer_found;
 use crate::fields::{DEFAULT_BATCH_SIZE, namespace_field};
 use crate::namespace::Namespace;
@@ -49,8 +50,7 @@ fn answer_stages(
     };
     let count = first_size(fields)?;
     let found = after_stages(alloc, stages.as_slice(), store.documents(namespace))?;
-    let answer = answer_found(alloc, store, namespace, found, count, false)?;
-    Ok(answer)
+    in_memory(answer_found(alloc, store, namespace, found, count, false))
 }
 
 /// Answers with the documents that a pipeline makes of a collection.
@@ -66,5 +66,7 @@ pub fn aggregate(
 {
     let namespace = namespace_field(body, "aggregate", CommandError::Aggregate)?;
     let fields = owned_body(alloc, body)?;
-    answer_stages(alloc, store, namespace, &fields)
+    let answer = answer_stages(alloc, store, namespace, &fields);
+    drop(fields);
+    answer
 }

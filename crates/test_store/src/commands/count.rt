@@ -6,7 +6,7 @@ ghost use Rattle.bson_raw.specs.{document_bytes};
 ghost use Rattle.test_store.specs.Commands.{IsCarriedOut, count};
 ghost use Rattle.test_store.specs.Held.{store_of};
 
-use crate::answer::counted_answer;
+use crate::answer::{counted_answer, in_memory};
 use crate::selection::{selected, selection_in};
 use crate::store::Store;
 use bson_doc::Document;
@@ -22,7 +22,10 @@ pub fn count(alloc: Global, store: &mut Store, body: RawDocument<'_>) -> Result<
     ensures steady { (store_of store.new).collections ≡ (store_of store.old).collections }
 {
     let selection = selection_in(alloc, body, "count", CommandError::Count, "query")?;
-    let found = selected(alloc, store, &selection)?;
-    let answer = counted_answer(alloc, found.len())?;
-    Ok(answer)
+    let found = selected(alloc, store, &selection);
+    drop(selection);
+    let found = found?;
+    let answer = counted_answer(alloc, found.len());
+    drop(found);
+    in_memory(answer)
 }

@@ -3,13 +3,14 @@
 ghost use Rattle.std.specs.Prelude.{◌≡◌, ◌<◌, ◌^◌, [], IfOk, OnErr, OnOk, length, map};
 ghost use Rattle.bson_elem.specs.{Spells, Tree};
 ghost use Rattle.bson_raw.specs.{document_bytes};
-ghost use Rattle.bson_doc.specs.{value_of};
+ghost use Rattle.bson_doc.specs.{tree_of, value_of};
 ghost use Rattle.test_store.specs.Answers.{created_pairs};
 ghost use Rattle.test_store.specs.Commands.{IsCarriedOut, create_indexes, created_by};
-ghost use Rattle.test_store.specs.Commands.{created_reply, no_index_pairs};
+ghost use Rattle.test_store.specs.Commands.{created_in, created_reply, no_index_pairs};
 ghost use Rattle.test_store.specs.Held.{indexes_in, namespace_of, store_of};
 ghost use Rattle.test_store.specs.Indexes.{index_view};
 
+use crate::answer::in_memory;
 use crate::fields::namespace_field;
 use crate::indexes::{Index, add_indexes, copies, first_indexes};
 use crate::namespace::Namespace;
@@ -34,11 +35,11 @@ fn set_created(
     requires none { answer.old ≡ [] }
     ensures { OnOk result (answer.new ≡ created_pairs before after is_new) }
 {
-    set(alloc, answer, "numIndexesBefore", count_value(before))?;
-    set(alloc, answer, "numIndexesAfter", count_value(after))?;
     let is_new = Bson::Boolean(is_new);
-    set(alloc, answer, "createdCollectionAutomatically", is_new)?;
-    set_ok(alloc, answer)
+    set(alloc, answer, "numIndexesBefore", count_value(before))
+        .and(set(alloc, answer, "numIndexesAfter", count_value(after)))
+        .and(set(alloc, answer, "createdCollectionAutomatically", is_new))
+        .and(set_ok(alloc, answer))
 }
 
 /// Makes the answer that tells how many indexes there were and are, and whether the collection is
@@ -54,8 +55,7 @@ fn created_answer(
     ensures { IfOk result (λ d. d ≡ created_pairs before after is_new) }
 {
     let mut answer = Document::new(alloc);
-    set_created(alloc, &mut answer, before, after, is_new)?;
-    Ok(answer)
+    set_created(alloc, &mut answer, before, after, is_new).and(Ok(answer))
 }
 
 /// Copies the indexes of a namespace, or makes those of a new collection.
@@ -104,9 +104,13 @@ fn put_created(
         ((store_of store.new).collections ≡ (store_of store.old).collections) }
 {
     let is_new = store.indexes(namespace).is_none();
-    let answer = created_answer(alloc, before, indexes.len(), is_new)?;
-    store.put_indexes(namespace, indexes)?;
-    Ok(answer)
+    match created_answer(alloc, before, indexes.len(), is_new) {
+        Ok(answer) => store.put_indexes(namespace, indexes).and(Ok(answer)),
+        Err(refused) => {
+            drop(indexes);
+            Err(refused)
+        }
+    }
 }
 
 /// Makes the indexes of a collection that these values ask for, and the collection if there is
@@ -124,13 +128,37 @@ fn created_by(
         ((store_of store.new).collections ≡ (store_of store.old).collections) }
 {
     if asked.is_empty() {
-        return Ok(no_index(alloc)?);
+        return in_memory(no_index(alloc));
     }
     let mut indexes = indexes_in(alloc, store, namespace)?;
     let before = indexes.len();
-    add_indexes(alloc, asked, &mut indexes)?;
-    let answer = put_created(alloc, store, namespace, before, indexes)?;
-    Ok(answer)
+    match add_indexes(alloc, asked, &mut indexes) {
+        Ok(()) => in_memory(put_created(alloc, store, namespace, before, indexes)),
+        Err(failure) => {
+            drop(indexes);
+            Err(failure)
+        }
+    }
+}
+
+/// Makes the indexes of a collection that the array `indexes` in these fields asks for, and the
+/// collection if there is none.
+fn created_in(
+    alloc: Global,
+    store: &mut Store,
+    namespace: Namespace<'_>,
+    fields: &Document,
+) -> Result<Document, Failure>
+    ensures carried { IsCarriedOut
+        (created_in (store_of store.old) (namespace_of namespace.entry) (tree_of fields.now))
+        (store_of store.old) result (store_of store.new) }
+    ensures kept { OnErr result
+        ((store_of store.new).collections ≡ (store_of store.old).collections) }
+{
+    match array_field(fields, "indexes") {
+        Some(asked) => created_by(alloc, store, namespace, asked.as_slice()),
+        None => Err(Failure::Refused(CommandError::Indexes)),
+    }
 }
 
 /// Makes indexes of a collection, and the collection if there is none.
@@ -147,8 +175,7 @@ pub fn create_indexes(
 {
     let namespace = namespace_field(body, "createIndexes", CommandError::CreateIndexes)?;
     let fields = owned_body(alloc, body)?;
-    let Some(asked) = array_field(&fields, "indexes") else {
-        return Err(Failure::Refused(CommandError::Indexes));
-    };
-    created_by(alloc, store, namespace, asked.as_slice())
+    let answer = created_in(alloc, store, namespace, &fields);
+    drop(fields);
+    answer
 }

@@ -6,7 +6,7 @@ ghost use Rattle.wire_msg.specs.{Carries, Content};
 ghost use Rattle.test_store.specs.Commands.{IsCarriedOut, delete, delete_by, delete_reply};
 ghost use Rattle.test_store.specs.Held.{namespace_of, store_of};
 
-use crate::answer::written_answer;
+use crate::answer::{in_memory, written_answer};
 use crate::fields::{flag_field, namespace_field};
 use crate::namespace::Namespace;
 use crate::store::Store;
@@ -34,9 +34,13 @@ fn put_left(
 {
     let held = store.documents(namespace);
     let count = held.len().saturating_sub(left.len());
-    let answer = written_answer(alloc, count, errors)?;
-    store.put_documents(namespace, left)?;
-    Ok(answer)
+    match written_answer(alloc, count, errors) {
+        Ok(answer) => store.put_documents(namespace, left).and(Ok(answer)),
+        Err(refused) => {
+            drop(left);
+            Err(refused)
+        }
+    }
 }
 
 /// Deletes documents of a namespace by statements.
@@ -72,7 +76,7 @@ pub fn delete(alloc: Global, store: &mut Store, payload: Payload<'_>) -> Result<
     let namespace = namespace_field(body, "delete", CommandError::Delete)?;
     let is_ordered = flag_field(body, "ordered", true, CommandError::Ordered)?;
     let statements = brought_documents(alloc, payload, "deletes")?;
-    let statements = statements.as_slice();
-    let answer = delete_by(alloc, store, is_ordered, namespace, statements)?;
-    Ok(answer)
+    let answer = delete_by(alloc, store, is_ordered, namespace, statements.as_slice());
+    drop(statements);
+    in_memory(answer)
 }

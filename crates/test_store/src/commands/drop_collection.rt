@@ -29,9 +29,9 @@ fn set_dropped(
     ensures { OnOk result
         (answer.new ≡ dropped_pairs indexes (namespace_text (namespace_of namespace.entry))) }
 {
-    set(alloc, answer, "nIndexesWas", count_value(indexes))?;
-    set_namespace(alloc, answer, namespace)?;
-    set_ok(alloc, answer)
+    set(alloc, answer, "nIndexesWas", count_value(indexes))
+        .and(set_namespace(alloc, answer, namespace))
+        .and(set_ok(alloc, answer))
 }
 
 /// Makes the answer that says that a collection with so many indexes was dropped.
@@ -45,8 +45,7 @@ fn dropped_answer(
         (λ d. d ≡ dropped_pairs indexes (namespace_text (namespace_of namespace.entry))) }
 {
     let mut answer = Document::new(alloc);
-    set_dropped(alloc, &mut answer, indexes, namespace)?;
-    Ok(answer)
+    set_dropped(alloc, &mut answer, indexes, namespace).and(Ok(answer))
 }
 
 /// Drops a collection.
@@ -66,6 +65,11 @@ pub fn drop_collection(
         return Err(Failure::Refused(CommandError::NamespaceNotFound));
     };
     let answer = dropped_answer(alloc, indexes.len(), namespace)?;
-    store.drop_collection(namespace)?;
-    Ok(answer)
+    match store.drop_collection(namespace) {
+        Ok(()) => Ok(answer),
+        Err(error) => {
+            drop(answer);
+            Err(Failure::Refused(error))
+        }
+    }
 }

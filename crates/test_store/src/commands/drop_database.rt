@@ -1,6 +1,6 @@
 //! Carries out the command dropDatabase.
 
-ghost use Rattle.std.specs.Prelude.{◌≡◌, IfOk, OnErr};
+ghost use Rattle.std.specs.Prelude.{◌≡◌, [], IfOk, OnErr, OnOk, true};
 ghost use Rattle.bson_elem.specs.{Spells, Tree};
 ghost use Rattle.bson_raw.specs.{document_bytes};
 ghost use Rattle.test_store.specs.Answers.{dropped_database_pairs};
@@ -15,6 +15,14 @@ use command_parts::{ok_alone, set_ok, set_text};
 use doc_query::{CommandError, Failure};
 use std::alloc::{AllocError, Global};
 
+/// Sets the fields of the answer that says that this database was dropped.
+fn set_dropped(alloc: Global, answer: &mut Document, database: &str) -> Result<(), AllocError>
+    requires { answer.old ≡ [] }
+    ensures { OnOk result (answer.new ≡ dropped_database_pairs database.now true) }
+{
+    set_text(alloc, answer, "dropped", database).and(set_ok(alloc, answer))
+}
+
 /// Makes the answer that says whether a database was dropped: it has its name, if there was one.
 fn dropped_answer(alloc: Global, database: &str, held: bool) -> Result<Document, AllocError>
     ensures { IfOk result (λ d. d ≡ dropped_database_pairs database.now held) }
@@ -23,9 +31,7 @@ fn dropped_answer(alloc: Global, database: &str, held: bool) -> Result<Document,
         return ok_alone(alloc);
     }
     let mut answer = Document::new(alloc);
-    set_text(alloc, &mut answer, "dropped", database)?;
-    set_ok(alloc, &mut answer)?;
-    Ok(answer)
+    set_dropped(alloc, &mut answer, database).and(Ok(answer))
 }
 
 /// Drops all collections of a database.
@@ -42,7 +48,11 @@ pub fn drop_database(
 {
     let database = text_field(body, "$db", CommandError::Database)?;
     let held = has_database(&store.collections, database);
-    let answer = dropped_answer(alloc, database, held)?;
-    store.drop_database(database);
-    Ok(answer)
+    match dropped_answer(alloc, database, held) {
+        Ok(answer) => {
+            store.drop_database(database);
+            Ok(answer)
+        }
+        Err(_) => Err(Failure::OutOfMemory),
+    }
 }

@@ -10,7 +10,7 @@ ghost use Rattle.test_store.specs.Commands.{left_of, query_in, shape_in};
 ghost use Rattle.test_store.specs.Held.{namespace_of, store_of};
 ghost use Rattle.test_store.specs.Queries.{query_of, shape_of};
 
-use crate::answer::{Batch, cursor_answer};
+use crate::answer::{Batch, cursor_answer, in_memory};
 use crate::fields::{first_batch_size, flag_field};
 use crate::namespace::Namespace;
 use crate::selection::{Selection, selected, selection_in};
@@ -66,8 +66,13 @@ fn query_in(alloc: Global, body: RawDocument<'_>) -> Result<Query<'_>, Failure>
         → IfErr result (λ e. IsFailure (query_in t) e) }
 {
     let selection = selection_in(alloc, body, "find", CommandError::Find, "filter")?;
-    let shape = shape_in(alloc, body)?;
-    Ok(Query { selection, shape })
+    match shape_in(alloc, body) {
+        Ok(shape) => Ok(Query { selection, shape }),
+        Err(failure) => {
+            drop(selection);
+            Err(failure)
+        }
+    }
 }
 
 /// Removes all documents if no cursor is to be opened over them.
@@ -94,10 +99,18 @@ pub fn answer_found(
         ≡ record { answer = d; held = store_of store.new }) }
     ensures steady { (store_of store.new).collections ≡ (store_of store.old).collections }
 {
-    let batch = next_batch(&mut found, count)?;
+    let Ok(batch) = next_batch(&mut found, count) else {
+        drop(found);
+        return Err(AllocError);
+    };
     keep_for_cursor(&mut found, is_single);
-    let id = store.open_cursor(namespace, found)?;
-    cursor_answer(alloc, Batch::First, batch, id, namespace)
+    match store.open_cursor(namespace, found) {
+        Ok(id) => cursor_answer(alloc, Batch::First, batch, id, namespace),
+        Err(refused) => {
+            drop(batch);
+            Err(refused)
+        }
+    }
 }
 
 /// Answers with the first documents that a query finds, and opens a cursor over the others.
@@ -111,8 +124,7 @@ fn answer_query(alloc: Global, store: &mut Store, query: &Query<'_>) -> Result<D
     let shape = &query.shape;
     let found = projected(alloc, &shape.projection, found)?;
     let count = shape.count;
-    let answer = answer_found(alloc, store, namespace, found, count, shape.is_single)?;
-    Ok(answer)
+    in_memory(answer_found(alloc, store, namespace, found, count, shape.is_single))
 }
 
 /// Finds the documents of a collection that match a filter, and of each the fields that a projection
@@ -124,5 +136,7 @@ pub fn find(alloc: Global, store: &mut Store, body: RawDocument<'_>) -> Result<D
     ensures steady { (store_of store.new).collections ≡ (store_of store.old).collections }
 {
     let query = query_in(alloc, body)?;
-    answer_query(alloc, store, &query)
+    let answer = answer_query(alloc, store, &query);
+    drop(query);
+    answer
 }

@@ -6,7 +6,7 @@ ghost use Rattle.bson_raw.specs.{document_bytes};
 ghost use Rattle.test_store.specs.Commands.{IsCarriedOut, get_more, next_answer};
 ghost use Rattle.test_store.specs.Held.{namespace_of, store_of};
 
-use crate::answer::{Batch, cursor_answer};
+use crate::answer::{Batch, cursor_answer, in_memory};
 use crate::fields::{id_field, namespace_field, next_batch_size};
 use crate::namespace::Namespace;
 use crate::store::Store;
@@ -29,8 +29,7 @@ fn answer_next(
     ensures steady { (store_of store.new).collections ≡ (store_of store.old).collections }
 {
     let (batch, id) = store.next_batch(id, namespace, count)?;
-    let answer = cursor_answer(alloc, Batch::Next, batch, id, namespace)?;
-    Ok(answer)
+    in_memory(cursor_answer(alloc, Batch::Next, batch, id, namespace))
 }
 
 /// Answers with the next documents of a cursor.

@@ -8,7 +8,7 @@ ghost use Rattle.test_store.specs.Commands.{IsCarriedOut, insert, insert_by, ins
 ghost use Rattle.test_store.specs.Held.{namespace_of, store_of};
 
 use crate::adding::{Adding, gather};
-use crate::answer::written_answer;
+use crate::answer::{in_memory, written_answer};
 use crate::fields::{flag_field, namespace_field};
 use crate::namespace::Namespace;
 use crate::store::Store;
@@ -33,9 +33,13 @@ fn put_added(
         ((store_of store.new).collections ≡ (store_of store.old).collections) }
 {
     let Adding { added, errors } = adding;
-    let answer = written_answer(alloc, added.len(), errors)?;
-    store.insert_any(namespace, added)?;
-    Ok(answer)
+    match written_answer(alloc, added.len(), errors) {
+        Ok(answer) => store.insert_any(namespace, added).and(Ok(answer)),
+        Err(refused) => {
+            drop(added);
+            Err(refused)
+        }
+    }
 }
 
 /// Inserts documents into a namespace, except those whose `_id` is taken or can't be one.
@@ -72,7 +76,7 @@ pub fn insert(alloc: Global, store: &mut Store, payload: Payload<'_>) -> Result<
     let namespace = namespace_field(body, "insert", CommandError::Insert)?;
     let is_ordered = flag_field(body, "ordered", true, CommandError::Ordered)?;
     let documents = brought_documents(alloc, payload, "documents")?;
-    let documents = documents.as_slice();
-    let answer = insert_each(alloc, store, is_ordered, namespace, documents)?;
-    Ok(answer)
+    let answer = insert_each(alloc, store, is_ordered, namespace, documents.as_slice());
+    drop(documents);
+    in_memory(answer)
 }

@@ -1,6 +1,6 @@
 //! Carries out the command listCollections.
 
-ghost use Rattle.std.specs.Prelude.{◌≡◌, IfOk, OnOk, map, codes, false, ◌∷◌, []};
+ghost use Rattle.std.specs.Prelude.{◌≡◌, ◌++◌, IfOk, OnOk, map, codes, false, ◌∷◌, []};
 ghost use Rattle.bson_elem.specs.{Spells, Tree};
 ghost use Rattle.bson_raw.specs.{document_bytes};
 ghost use Rattle.bson_doc.specs.{put, tree_of, value_of};
@@ -9,10 +9,12 @@ ghost use Rattle.test_store.specs.Answers.{listing};
 ghost use Rattle.test_store.specs.Commands.{IsCarriedOut, list_collections, list_reply, listings};
 ghost use Rattle.test_store.specs.Held.{collection_of, store_of};
 
+use crate::answer::in_memory;
 use crate::commands::find::answer_found;
 use crate::fields::{list_size, name_only_field, text_field};
 use crate::namespace::Namespace;
 use crate::store::{Collection, Store};
+use crate::values::push;
 use bson_doc::{Bson, Document};
 use bson_raw::RawDocument;
 use command_parts::set_text;
@@ -24,8 +26,7 @@ fn info(alloc: Global) -> Result<Document, AllocError>
     ensures { IfOk result (λ d. d ≡ (codes "readOnly", truth false) ∷ []) }
 {
     let mut info = Document::new(alloc);
-    set(alloc, &mut info, "readOnly", Bson::Boolean(false))?;
-    Ok(info)
+    set(alloc, &mut info, "readOnly", Bson::Boolean(false)).and(Ok(info))
 }
 
 /// Sets the fields of a listing that aren't asked for with `nameOnly`.
@@ -34,10 +35,14 @@ fn set_details(alloc: Global, listing: &mut Document) -> Result<(), AllocError>
         ≡ put (codes "info") (inner ((codes "readOnly", truth false) ∷ []))
         (put (codes "options") (inner []) listing.old)) }
 {
-    let options = Document::new(alloc);
-    set(alloc, listing, "options", Bson::Document(options))?;
     let info = info(alloc)?;
-    set(alloc, listing, "info", Bson::Document(info))
+    let options = Document::new(alloc);
+    set(alloc, listing, "options", Bson::Document(options)).and(set(
+        alloc,
+        listing,
+        "info",
+        Bson::Document(info),
+    ))
 }
 
 /// Sets the fields of the listing of the collection with this name: with `name_only` its name and
@@ -51,12 +56,16 @@ fn set_listing(
     requires { document.old ≡ [] }
     ensures { OnOk result (inner document.new ≡ listing name_only name.now) }
 {
-    set_text(alloc, document, "name", name)?;
-    set_text(alloc, document, "type", "collection")?;
+    let is_set = set_text(alloc, document, "name", name).and(set_text(
+        alloc,
+        document,
+        "type",
+        "collection",
+    ));
     if name_only {
-        return Ok(());
+        return is_set;
     }
-    set_details(alloc, document)
+    is_set.and(set_details(alloc, document))
 }
 
 /// Makes the listing of the collection with this name: with `name_only` its name and type alone.
@@ -64,8 +73,43 @@ fn listing(alloc: Global, name: &str, name_only: bool) -> Result<Document, Alloc
     ensures { IfOk result (λ d. inner d ≡ listing name_only name.now) }
 {
     let mut listing = Document::new(alloc);
-    set_listing(alloc, &mut listing, name, name_only)?;
-    Ok(listing)
+    set_listing(alloc, &mut listing, name, name_only).and(Ok(listing))
+}
+
+/// Appends the listing of the collection with this name.
+fn push_listing(
+    alloc: Global,
+    name: &str,
+    name_only: bool,
+    found: &mut Vec<Bson>,
+) -> Result<(), AllocError>
+    ensures { OnOk result
+        (map value_of found.new.items ≡ map value_of found.old.items
+        ++ listing name_only name.now ∷ []) }
+{
+    let listing = listing(alloc, name, name_only)?;
+    push(found, Bson::Document(listing))
+}
+
+/// Appends the listings of the collections of a database, in order.
+fn push_listings(
+    alloc: Global,
+    collections: &[Collection],
+    database: &str,
+    name_only: bool,
+    found: &mut Vec<Bson>,
+) -> Result<(), AllocError>
+    ensures { OnOk result
+        (map value_of found.new.items ≡ map value_of found.old.items
+        ++ listings name_only database.now (map collection_of collections.now)) }
+{
+    for collection in collections {
+        if collection.namespace.database.as_str() == database {
+            let name = collection.namespace.collection.as_str();
+            push_listing(alloc, name, name_only, found)?;
+        }
+    }
+    Ok(())
 }
 
 /// Makes the listings of the collections of a database, in order.
@@ -79,14 +123,7 @@ fn listings(
         ≡ listings name_only database.now (map collection_of collections.now)) }
 {
     let mut found = Vec::new(alloc);
-    for collection in collections {
-        if collection.namespace.database.as_str() == database {
-            let name = collection.namespace.collection.as_str();
-            let listing = listing(alloc, name, name_only)?;
-            found.push(Bson::Document(listing))?;
-        }
-    }
-    Ok(found)
+    push_listings(alloc, collections, database, name_only, &mut found).and(Ok(found))
 }
 
 /// Answers with the first listings of the collections of a database that match a filter, and opens
@@ -104,8 +141,9 @@ fn answer_list(
     ensures steady { (store_of store.new).collections ≡ (store_of store.old).collections }
 {
     let all = listings(alloc, &store.collections, database, name_only)?;
-    let found = matching(alloc, filter, &all)?;
+    let found = matching(alloc, filter, &all);
     drop(all);
+    let found = found?;
     let namespace = Namespace {
         database,
         collection: "$cmd.listCollections",
@@ -129,6 +167,7 @@ pub fn list_collections(
     let name_only = name_only_field(body)?;
     let count = list_size(body)?;
     let filter = filter_field(alloc, body, "filter")?;
-    let answer = answer_list(alloc, store, database, name_only, &filter, count)?;
-    Ok(answer)
+    let answer = answer_list(alloc, store, database, name_only, &filter, count);
+    drop(filter);
+    in_memory(answer)
 }

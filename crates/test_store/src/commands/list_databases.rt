@@ -1,6 +1,6 @@
 //! Carries out the command listDatabases.
 
-ghost use Rattle.std.specs.Prelude.{◌≡◌, [], IfOk, OnOk, map};
+ghost use Rattle.std.specs.Prelude.{◌≡◌, ◌++◌, ◌∷◌, [], IfOk, OnOk, map};
 ghost use Rattle.bson_elem.specs.{Spells, Tree};
 ghost use Rattle.bson_raw.specs.{document_bytes};
 ghost use Rattle.bson_doc.specs.{tree_of, value_of};
@@ -9,27 +9,57 @@ ghost use Rattle.test_store.specs.Answers.{database_listing, databases_pairs};
 ghost use Rattle.test_store.specs.Commands.{IsCarriedOut, database_listings, list_databases};
 ghost use Rattle.test_store.specs.Held.{collection_of, store_of};
 
-use crate::answer::set_array;
+use crate::answer::{in_memory, set_array};
 use crate::fields::name_only_field;
 use crate::store::{Collection, Store, has_database};
+use crate::values::push;
 use bson_doc::{Bson, Document};
 use bson_raw::RawDocument;
 use command_parts::{set_ok, set_text};
 use doc_query::{Failure, filter_field, matching, set};
 use std::alloc::{AllocError, Global};
 
-/// Makes the listing of the database with this name: with `name_only` the name alone, and else
-/// that it has something, in no files.
+/// Sets the fields of the listing of the database with this name: with `name_only` the name alone,
+/// and else that it has something, in no files.
+fn set_listing(
+    alloc: Global,
+    listing: &mut Document,
+    name: &str,
+    name_only: bool,
+) -> Result<(), AllocError>
+    requires { listing.old ≡ [] }
+    ensures { OnOk result (inner listing.new ≡ database_listing name_only name.now) }
+{
+    let is_set = set_text(alloc, listing, "name", name);
+    if name_only {
+        return is_set;
+    }
+    is_set
+        .and(set(alloc, listing, "sizeOnDisk", Bson::Int64(0)))
+        .and(set(alloc, listing, "empty", Bson::Boolean(false)))
+}
+
+/// Makes the listing of the database with this name.
 fn listing(alloc: Global, name: &str, name_only: bool) -> Result<Document, AllocError>
     ensures { IfOk result (λ d. inner d ≡ database_listing name_only name.now) }
 {
     let mut listing = Document::new(alloc);
-    set_text(alloc, &mut listing, "name", name)?;
-    if !name_only {
-        set(alloc, &mut listing, "sizeOnDisk", Bson::Int64(0))?;
-        set(alloc, &mut listing, "empty", Bson::Boolean(false))?;
-    }
-    Ok(listing)
+    set_listing(alloc, &mut listing, name, name_only).and(Ok(listing))
+}
+
+/// Appends the listing of the database with this name.
+fn push_listing(
+    alloc: Global,
+    name: &str,
+    name_only: bool,
+    found: &mut Vec<Bson>,
+) -> Result<(), AllocError>
+    ensures { OnOk result
+        (map value_of found.new.items ≡ map value_of found.old.items
+        ++ database_listing name_only name.now ∷ []) }
+{
+    let listing = listing(alloc, name, name_only)?;
+    push(found, Bson::Document(listing))
 }
 
 /// Makes the listing of each database, in the order of their first collections.
@@ -45,7 +75,7 @@ fn listings(
     for (i, collection) in collections.iter().enumerate() {
         let name = collection.namespace.database.as_str();
         if !has_database(&collections[..i], name) {
-            found.push(Bson::Document(listing(alloc, name, name_only)?))?;
+            push_listing(alloc, name, name_only, &mut found)?;
         }
     }
     Ok(found)
@@ -63,11 +93,13 @@ fn set_databases(
     ensures { OnOk result
         (answer.new ≡ databases_pairs name_only (map value_of listings.items)) }
 {
-    set_array(alloc, answer, "databases", listings)?;
-    if !name_only {
-        set(alloc, answer, "totalSize", Bson::Int64(0))?;
+    let is_set = set_array(alloc, answer, "databases", listings);
+    if name_only {
+        return is_set.and(set_ok(alloc, answer));
     }
-    set_ok(alloc, answer)
+    is_set
+        .and(set(alloc, answer, "totalSize", Bson::Int64(0)))
+        .and(set_ok(alloc, answer))
 }
 
 /// Makes the answer with these listings, and unless it is for names alone with their sizes' sum.
@@ -79,8 +111,7 @@ fn databases_answer(
     ensures { IfOk result (λ d. d ≡ databases_pairs name_only (map value_of listings.items)) }
 {
     let mut answer = Document::new(alloc);
-    set_databases(alloc, &mut answer, listings, name_only)?;
-    Ok(answer)
+    set_databases(alloc, &mut answer, listings, name_only).and(Ok(answer))
 }
 
 /// Answers with those of the listings of all databases that match a filter.
@@ -94,9 +125,9 @@ fn answer_list(
         (database_listings name_only (map collection_of collections.now)))) }
 {
     let all = listings(alloc, collections, name_only)?;
-    let found = matching(alloc, filter, &all)?;
+    let found = matching(alloc, filter, &all);
     drop(all);
-    databases_answer(alloc, found, name_only)
+    databases_answer(alloc, found?, name_only)
 }
 
 /// Answers with the listings of the databases that match a filter.
@@ -112,6 +143,7 @@ pub fn list_databases(
 {
     let name_only = name_only_field(body)?;
     let filter = filter_field(alloc, body, "filter")?;
-    let answer = answer_list(alloc, &store.collections, name_only, &filter)?;
-    Ok(answer)
+    let answer = answer_list(alloc, &store.collections, name_only, &filter);
+    drop(filter);
+    in_memory(answer)
 }

@@ -6,6 +6,7 @@ ghost use Rattle.bson_raw.specs.{document_bytes};
 ghost use Rattle.test_store.specs.Commands.{IsCarriedOut, list_indexes};
 ghost use Rattle.test_store.specs.Held.{store_of};
 
+use crate::answer::in_memory;
 use crate::commands::find::answer_found;
 use crate::fields::{list_size, namespace_field};
 use crate::indexes::index_listings;
@@ -33,6 +34,5 @@ pub fn list_indexes(
         return Err(Failure::Refused(CommandError::NamespaceNotFound));
     };
     let listings = index_listings(alloc, indexes)?;
-    let answer = answer_found(alloc, store, namespace, listings, count, false)?;
-    Ok(answer)
+    in_memory(answer_found(alloc, store, namespace, listings, count, false))
 }

@@ -9,7 +9,7 @@ ghost use Rattle.test_store.specs.Answers.{updated_pairs};
 ghost use Rattle.test_store.specs.Commands.{IsCarriedOut, update, update_by, update_reply};
 ghost use Rattle.test_store.specs.Held.{namespace_of, store_of};
 
-use crate::answer::set_any;
+use crate::answer::{in_memory, set_any};
 use crate::fields::{flag_field, namespace_field};
 use crate::namespace::Namespace;
 use crate::store::Store;
@@ -55,8 +55,7 @@ fn set_counts(
     ensures { OnOk result (answer.new
         ≡ (codes "n", count_value matched) ∷ (codes "nModified", count_value modified) ∷ []) }
 {
-    set_count(alloc, answer, "n", matched)?;
-    set_count(alloc, answer, "nModified", modified)
+    set_count(alloc, answer, "n", matched).and(set_count(alloc, answer, "nModified", modified))
 }
 
 /// Sets the fields of the answer: how many documents matched or were inserted, how many became
@@ -73,10 +72,10 @@ fn set_updated(
     ensures { OnOk result (answer.new ≡ updated_pairs matched modified
         (map value_of upserted.items) (map value_of errors.items)) }
 {
-    set_counts(alloc, answer, matched, modified)?;
-    set_any(alloc, answer, "upserted", upserted)?;
-    set_any(alloc, answer, "writeErrors", errors)?;
-    set_ok(alloc, answer)
+    set_counts(alloc, answer, matched, modified)
+        .and(set_any(alloc, answer, "upserted", upserted))
+        .and(set_any(alloc, answer, "writeErrors", errors))
+        .and(set_ok(alloc, answer))
 }
 
 /// Makes the answer: how many documents matched or were inserted, how many became others, which
@@ -92,8 +91,7 @@ fn updated_answer(
         (map value_of upserted.items) (map value_of errors.items)) }
 {
     let mut answer = Document::new(alloc);
-    set_updated(alloc, &mut answer, matched, modified, upserted, errors)?;
-    Ok(answer)
+    set_updated(alloc, &mut answer, matched, modified, upserted, errors).and(Ok(answer))
 }
 
 /// Puts what statements made of the documents of a namespace in their place, and answers with what
@@ -117,9 +115,13 @@ fn put_updated(
         upserted,
         errors,
     } = updates;
-    let answer = updated_answer(alloc, matched, modified, upserted, errors)?;
-    store.put_documents(namespace, documents)?;
-    Ok(answer)
+    match updated_answer(alloc, matched, modified, upserted, errors) {
+        Ok(answer) => store.put_documents(namespace, documents).and(Ok(answer)),
+        Err(refused) => {
+            drop(documents);
+            Err(refused)
+        }
+    }
 }
 
 /// Changes documents of a namespace, or inserts some, by statements.
@@ -155,7 +157,7 @@ pub fn update(alloc: Global, store: &mut Store, payload: Payload<'_>) -> Result<
     let namespace = namespace_field(body, "update", CommandError::Update)?;
     let is_ordered = flag_field(body, "ordered", true, CommandError::Ordered)?;
     let statements = brought_documents(alloc, payload, "updates")?;
-    let statements = statements.as_slice();
-    let answer = update_by(alloc, store, is_ordered, namespace, statements)?;
-    Ok(answer)
+    let answer = update_by(alloc, store, is_ordered, namespace, statements.as_slice());
+    drop(statements);
+    in_memory(answer)
 }

@@ -7,13 +7,13 @@ use Rattle.test_store.specs.Held.{namespace_of, store_of}
 use Rattle.test_store.proofs.Replies.{found_answered, left_of-map}
 use Rattle.test_store.proofs.commands.find.answer_found.Goals as goal
 
-pub returns-clause-answered : goal.returns-clause-answered
-returns-clause-answered c =
+pub returns-in-Ok-open_cursor-clause-answered : goal.returns-in-Ok-open_cursor-clause-answered
+returns-in-Ok-open_cursor-clause-answered c =
     let all = c.args.found.items in
-    let fits : FitsSigned w64 c.in_ok-id.id = search rules in
-    found_answered (store_of c.args.store.now) _ (namespace_of c.args.namespace) (map value_of all) c.args.count c.args.is_single (map value_of c.in_ok-batch.batch.items) (map value_of c.keep_for_cursor.new.left.items)
-    (to_z w64 (of_z w64 c.in_ok-id.id)) c.cursor_answer.result
-    c.in_ok-batch.ensures.taken
-    (ap (map value_of) c.keep_for_cursor.ensures ∙ left_of-map value_of c.args.is_single _ ∙ ap (left_of c.args.is_single) c.in_ok-batch.ensures.left)
-    (to_z-of_z w64 c.in_ok-id.id fits ∙ c.in_ok-id.ensures.id)
-    c.in_ok-id.ensures.opened c.open_cursor.ensures.collections c.cursor_answer.ensures
+    let fits : FitsSigned w64 c.in-Ok-open_cursor.id = search rules in
+    found_answered (store_of c.args.store.now) _ (namespace_of c.args.namespace) (map value_of all) c.args.count c.args.is_single (map value_of c.in-Ok.batch.items) (map value_of c.keep_for_cursor.new.left.items)
+    (to_z w64 (of_z w64 c.in-Ok-open_cursor.id)) c.cursor_answer.result
+    c.in-Ok.ensures.taken
+    (ap (map value_of) c.keep_for_cursor.ensures ∙ left_of-map value_of c.args.is_single _ ∙ ap (left_of c.args.is_single) c.in-Ok.ensures.left)
+    (to_z-of_z w64 c.in-Ok-open_cursor.id fits ∙ c.in-Ok-open_cursor.ensures.id)
+    c.in-Ok-open_cursor.ensures.opened c.open_cursor.ensures.collections c.cursor_answer.ensures

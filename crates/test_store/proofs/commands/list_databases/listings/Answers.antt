@@ -6,7 +6,7 @@ use Rattle.test_store.specs.Answers.{database_listing}
 use Rattle.test_store.specs.Held.{collection_of, database_names, has_database}
 use Rattle.test_store.proofs.Databases.{all_others, left_names, left_step, others}
 use Rattle.test_store.proofs.commands.list_databases.listings.Goals as goal
-use Rattle.test_store.proofs.commands.list_databases.listings.Goals.{then-not-has_database+in_ok-listing+in_ok-push, else-not-has_database}
+use Rattle.test_store.proofs.commands.list_databases.listings.Goals.{then-not-has_database+in_ok-push_listing, else-not-has_database}
 
 pub loop-i-init : goal.loop-i-init
 loop-i-init c =
@@ -22,7 +22,7 @@ loop-i-preserved c =
     let f = database_listing c.args.name_only in
     let name = string_bytes x.namespace.database in
     elim c.if-not-has_database.branch [
-      | then-not-has_database+in_ok-listing+in_ok-push w ↦
+      | then-not-has_database+in_ok-push_listing w ↦
           let none : has_database name (map collection_of (take i cs)) ≡ false = search rules in
           let step : left_names cs i ≡ name ∷ left_names cs (i + 1) = left_step cs i x false c.loop-i-test.true c.index-collections-i.is none in
           search (rules, step, map_push, append_assoc)

@@ -13,7 +13,7 @@ returns-in-Ok-clause-answered c =
     let reply : Reply = record { answer = c.in-Ok.answer; held = store_of c.answer_to.new.store } in
     let is : reply_to (store_of c.args.self.now) (content_of p) ≡ reply =
     of_content p {P = λ k. reply_to (store_of c.args.self.now) k ≡ reply} (reply_set _ _) (λ k held. c.in-Ok.ensures.answered k held) in
-    answered c.args.self.now c.answer_to.new.store (asked c.args.request.now) c.in-Ok.answer (answers_of c.args.answers.now) (answers_of c.put_answer.new.answers) c.put_answer.result is c.requires c.put_answer.ensures.put
+    answered c.args.self.now c.answer_to.new.store (asked c.args.request.now) c.in-Ok.answer (answers_of c.args.answers.now) (answers_of c.put_answer-put.new.answers) c.put_answer-put.result is c.requires c.put_answer-put.ensures.put
 
 pub returns-in-Ok-clause-stopped : goal.returns-in-Ok-clause-stopped
 returns-in-Ok-clause-stopped c =
@@ -21,4 +21,4 @@ returns-in-Ok-clause-stopped c =
     let reply : Reply = record { answer = c.in-Ok.answer; held = store_of c.answer_to.new.store } in
     let is : reply_to (store_of c.args.self.now) (content_of p) ≡ reply =
     of_content p {P = λ k. reply_to (store_of c.args.self.now) k ≡ reply} (reply_set _ _) (λ k held. c.in-Ok.ensures.answered k held) in
-    stopped c.args.self.now _ (asked c.args.request.now) c.in-Ok.answer c.put_answer.result is c.put_answer.ensures.failed c.put_answer.ensures.memory
+    stopped c.args.self.now _ (asked c.args.request.now) c.in-Ok.answer c.put_answer-put.result is c.put_answer-put.ensures.failed c.put_answer-put.ensures.memory

@@ -6,10 +6,10 @@ use Rattle.test_store.specs.Held.{NamespaceView, collection_of}
 use Rattle.test_store.specs.Indexes.{index_view}
 use Rattle.test_store.proofs.store.Store.push_collection.Goals as goal
 
-pub returns-clause-pushed : goal.returns-clause-pushed
-returns-clause-pushed c =
+pub returns-in_ok-push-in-Ok-clause-pushed : goal.returns-in_ok-push-in-Ok-clause-pushed
+returns-in_ok-push-in-Ok-clause-pushed c =
     let items = c.args.self.now.collections.items in
-    let new : Collection = record { namespace = c.in_ok-namespace.namespace; indexes = c.args.indexes; documents = c.args.documents } in
-    let pushed : c.push.new.self.items ≡ items ++ new ∷ [] = c.in_ok-push.ensures.items in
+    let new : Collection = record { namespace = c.in-Ok.namespace; indexes = c.args.indexes; documents = c.args.documents } in
+    let pushed : c.push.new.self.items ≡ items ++ new ∷ [] = c.in_ok-push-in-Ok.ensures.items in
     ap (map collection_of) pushed ∙ map_push collection_of items new
-    ∙ ap (λ (v : NamespaceView). map collection_of items ++ record { namespace = v; indexes = map index_view c.args.indexes.items; documents = map value_of c.args.documents.items } ∷ []) c.in_ok-namespace.ensures
+    ∙ ap (λ (v : NamespaceView). map collection_of items ++ record { namespace = v; indexes = map index_view c.args.indexes.items; documents = map value_of c.args.documents.items } ∷ []) c.in-Ok.ensures
