@@ -11,3 +11,5 @@ pub mod Pieces
 pub mod Sending
 pub mod Feeding
 pub mod Placing
+pub mod Writing
+pub mod Noting

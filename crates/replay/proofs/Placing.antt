@@ -13,3 +13,8 @@ found_at (y ∷ ys) (suc i) x c e g = found_at ys i x c e g
 pub went_well : {A E : Type 0} (r : Result A E) (P : Type 0) → IsOk r → OnOk r P → P
 went_well (Ok a) P k p = p
 went_well (Err e) P k p = absurd cc
+
+-- what holds where a call goes well follows from what it says of that
+pub also_well : {A E : Type 0} (r : Result A E) (P Q : Type 0) → (P → Q) → OnOk r P → OnOk r Q
+also_well (Ok a) P Q f p = f p
+also_well (Err e) P Q f p = tt

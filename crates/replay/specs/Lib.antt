@@ -19,3 +19,7 @@ pub mod Reading
 pub mod Lanes
 pub mod Names
 pub mod Takes
+pub mod Cursors
+pub mod Carried
+pub mod Notes
+pub mod Compared

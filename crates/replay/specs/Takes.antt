@@ -2,7 +2,7 @@
 use Rattle.std.specs.Prelude.{◌++◌, ◌==◌, ℕ, List, [], ◌∷◌, Option, None, Some, find, flat_map}
 use Rattle.std.specs.Prelude.{if◌then◌else◌, map}
 
--- A record is taken: the number of its connection, and its request, if it has one.
+-- A record is taken: the number of its connection, and its request as it is sent, if it has one.
 pub record Take : Type 0 where
   pub number : ℕ
   pub requests : List (List ℕ)

@@ -1,7 +1,7 @@
 //! A connection of the record, and the one to the server over which its requests go.
 
 ghost use Rattle.std.specs.Prelude.{◌≡◌, ◌⊎◌, ◌++◌, ◌==◌, ◌∷◌, [], false, IfSome, List, None};
-ghost use Rattle.std.specs.Prelude.{Ok, OnOk, Some, is_none, length, not, option_map, ℕ};
+ghost use Rattle.std.specs.Prelude.{Ok, OnOk, Some, is_none, is_some, length, not, option_map, ℕ};
 ghost use Rattle.wire_frames.specs.{IsWholeFrame, frame_bytes};
 ghost use Rattle.replay.specs.Gives.{GivesOver};
 ghost use Rattle.replay.specs.MatchingRuns.{Act, Does, DoesSome, expect, meet};
@@ -130,6 +130,13 @@ impl<L: Link + Drop> Conn<L> {
         self.has_more
     }
 
+    /// Returns true if something is left to be sent.
+    pub fn waits(&self) -> bool
+        ensures { result ≡ is_some self.now.stall }
+    {
+        self.stall.is_some()
+    }
+
     /// Returns true if all that is to be sent was sent.
     pub fn is_sent(&self) -> bool
         ensures { result ≡ is_none self.now.stall }
@@ -224,8 +231,8 @@ impl<L: Link + Drop> Conn<L> {
         Ok(())
     }
 
-    /// Sends a request. Of what can't be sent at once, the server has to take some within some time.
-    /// It is found if nothing goes over the connection.
+    /// Sends a recorded request as these bytes. Of what can't be sent at once, the server has to take
+    /// some within some time. It is found if nothing goes over the connection.
     ///
     /// # Errors
     ///
@@ -233,6 +240,7 @@ impl<L: Link + Drop> Conn<L> {
     pub fn send(
         &mut self,
         frame: RawFrame<'_>,
+        sent: &[u8],
         taken: Taken,
         findings: &mut Vec<Finding>,
     ) -> Result<(), AllocError>
@@ -240,11 +248,11 @@ impl<L: Link + Drop> Conn<L> {
             (seen self.old.dialog.matching) (seen self.new.dialog.matching)
             findings.old.items findings.new.items) }
         ensures given { OnOk result (GivesOver (λ c. L.sent c.link) (λ c. c.waiting)
-            self.old.channel self.new.channel (frame_bytes frame.entry)) }
+            self.old.channel self.new.channel sent.now) }
         ensures number { self.new.number ≡ self.old.number }
     {
         match &mut self.channel {
-            Some(channel) => channel.push(frame.as_bytes())?,
+            Some(channel) => channel.push(sent)?,
             None => return self.lose(findings),
         }
         self.dialog.ask(frame, taken, findings)?;

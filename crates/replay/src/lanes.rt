@@ -1,12 +1,16 @@
 //! The connections of the record, each over one of its own to the server.
 
-ghost use Rattle.std.specs.Prelude.{◌≡◌, ◌++◌, ◌∷◌, [], IsOk, None, OnOk, length, not};
+ghost use Rattle.std.specs.Prelude.{◌≡◌, ◌++◌, ◌∷◌, [], IsOk, List, None, OnOk, length, not, ℕ};
 ghost use Rattle.std.specs.List.{list_any};
 ghost use Rattle.wire_frames.specs.{frame_bytes};
+ghost use Rattle.replay.specs.Carried.{IsCarried};
 ghost use Rattle.replay.specs.Counts.{HasTold};
+ghost use Rattle.replay.specs.Notes.{AreNoted};
 ghost use Rattle.replay.specs.Lanes.{GivesAt, awaits, has_more_at, least_from, place_of, waits};
 
+use crate::carrying::carried;
 use crate::conn::Conn;
+use crate::cursors::Cursors;
 use crate::finding::Finding;
 use crate::pace::{Taken, earlier};
 use crate::teller::Teller;
@@ -25,6 +29,8 @@ pub struct Lanes<L: Link + Drop> {
     conns: Vec<Conn<L>>,
     /// What was found on a connection and not told yet.
     findings: Vec<Finding>,
+    /// The cursors of the record whose ids on the server are known.
+    cursors: Cursors,
 }
 
 impl<L: Link + Drop> Lanes<L> {
@@ -32,10 +38,12 @@ impl<L: Link + Drop> Lanes<L> {
     pub fn new(alloc: Global) -> Lanes<L>
         ensures conns { result.conns.items ≡ [] }
         ensures findings { result.findings.items ≡ [] }
+        ensures cursors { result.cursors.list.items ≡ [] }
     {
         Lanes {
             conns: Vec::new(alloc),
             findings: Vec::new(alloc),
+            cursors: Cursors::new(alloc),
         }
     }
 
@@ -63,7 +71,7 @@ impl<L: Link + Drop> Lanes<L> {
     /// Returns `AllocError` if memory runs out.
     pub fn add(&mut self, conn: Conn<L>) -> Result<(), AllocError>
         ensures added { OnOk result (self.new.conns.items ≡ self.old.conns.items ++ conn ∷ []) }
-        ensures findings { self.new.findings ≡ self.old.findings }
+        ensures others { self.new ≡ record self.old { conns = self.new.conns } }
     {
         self.conns.push(conn)?;
         Ok(())
@@ -81,27 +89,25 @@ impl<L: Link + Drop> Lanes<L> {
         ensures done { OnOk result (IsOk done) }
         ensures counted { OnOk result (HasTold teller.old.tally teller.new.tally) }
         ensures told { OnOk result (self.new.findings.items ≡ []) }
+        ensures noted { OnOk result (AreNoted self.old.findings.items
+            self.old.cursors.list.items self.new.cursors.list.items) }
     {
-        teller.tell_all(number, &mut self.findings)?;
+        teller.tell_all(number, &mut self.findings, &mut self.cursors)?;
         done?;
         Ok(())
     }
 
-    /// Sends a recorded request that is taken now over the connection at this index, and over no
-    /// other one.
-    ///
-    /// # Errors
-    ///
-    /// Returns an error if writing fails or memory runs out.
+    /// Sends a recorded request that is taken now over the connection at this index, as these bytes.
     #[tactic(auto, using(crate::proofs::Counting::told_none, crate::proofs::Counting::told_both))]
-    pub fn send<W: Write + Drop>(
+    fn send_as<W: Write + Drop>(
         &mut self,
         i: usize,
         frame: RawFrame<'_>,
+        sent: &[u8],
         taken: Taken,
         teller: &mut Teller<'_, W>,
     ) -> io::Result<()>
-        ensures given { OnOk result (GivesAt L.sent i (frame_bytes frame.entry)
+        ensures given { OnOk result (GivesAt L.sent i sent.now
             self.old.conns.items self.new.conns.items) }
         ensures told { OnOk result (HasTold teller.old.tally teller.new.tally) }
     {
@@ -109,9 +115,32 @@ impl<L: Link + Drop> Lanes<L> {
             return Ok(());
         };
         let number = conn.number;
-        let done = conn.send(frame, taken, &mut self.findings);
+        let done = conn.send(frame, sent, taken, &mut self.findings);
         self.tell(number, done, teller)?;
         Ok(())
+    }
+
+    /// Sends a recorded request that is taken now over the connection at this index, and over no
+    /// other one, with the ids on the server of the cursors in it.
+    ///
+    /// # Errors
+    ///
+    /// Returns an error if writing fails or memory runs out.
+    pub fn send<W: Write + Drop>(
+        &mut self,
+        i: usize,
+        frame: RawFrame<'_>,
+        taken: Taken,
+        teller: &mut Teller<'_, W>,
+    ) -> io::Result<()>
+        ensures given { OnOk result ((sent : List ℕ)
+            × IsCarried self.old.cursors.list.items (frame_bytes frame.entry) sent
+            × GivesAt L.sent i sent self.old.conns.items self.new.conns.items) }
+        ensures told { OnOk result (HasTold teller.old.tally teller.new.tally) }
+    {
+        let alloc = *self.findings.allocator();
+        let sent = carried(alloc, &self.cursors, frame.as_bytes())?;
+        self.send_as(i, frame, &sent, taken, teller)
     }
 
     /// Awaits a recorded answer that is taken now on the connection at this index.
@@ -149,16 +178,23 @@ impl<L: Link + Drop> Lanes<L> {
         false
     }
 
+    /// Returns true if something is left to be sent.
+    fn waits(&self) -> bool
+        ensures { result ≡ list_any waits self.now.conns.items }
+    {
+        for conn in &self.conns {
+            if conn.waits() {
+                return true;
+            }
+        }
+        false
+    }
+
     /// Returns true if all requests were sent.
     pub fn is_sent(&self) -> bool
         ensures { result ≡ not (list_any waits self.now.conns.items) }
     {
-        for conn in &self.conns {
-            if !conn.is_sent() {
-                return false;
-            }
-        }
-        true
+        !self.waits()
     }
 
     /// Returns true if a connection is to take another turn at once.

@@ -22,7 +22,7 @@ pub fn each_is_told_once()
 {}
 
 /// Proves that whatever records are taken, the connection of a number is given the requests of the
-/// recorded connection of that number, each once and in order, and no other ones.
+/// recorded connection of that number, as they are sent, each once and in order, and no other ones.
 pub fn each_is_sent_once()
     ensures { (number : ℕ) (takes : List Take) →
         given_to number (after_takes [] takes) ≡ requests_of number takes }

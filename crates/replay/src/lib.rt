@@ -6,18 +6,24 @@
 //! on each connection the answer to the same request, and of several the one at the same index. All
 //! connections are served in one thread.
 //!
+//! A cursor has another id on the server than in the record. Requests are sent, and recorded answers
+//! compared, with the ids of the server.
+//!
 //! A connection finds what its answers are and what it is given to send, and writes nothing: what
 //! it found is told and counted once it is done.
 //!
 //! Uses wire_frames, wire_stream, bson_doc, bson_json and sockets. Used by bsonproxy. Read first:
-//! `specs/Matchings.antt`, `matching`, `pace`, `ignored`, and then `conn`, `lanes` and `player`.
+//! `specs/Matchings.antt`, `matching`, `pace`, `ignored`, `carrying`, and then `conn`, `lanes` and
+//! `player`.
 #![tactic(auto)]
 
 mod answers;
 mod asked;
+mod carrying;
 mod channel;
 mod conn;
 mod content;
+mod cursors;
 mod dialog;
 mod fault;
 mod finding;

@@ -5,13 +5,18 @@ ghost use Rattle.std.specs.Io.KnownBytes.{Appends};
 ghost use Rattle.bson_elem.specs.{Tree};
 ghost use Rattle.bson_raw.specs.{DocumentSplit};
 ghost use Rattle.wire_msg.specs.{IsMessage, Message, SpellsMsg};
+ghost use Rattle.replay.specs.Carried.{IsCarried};
+ghost use Rattle.replay.specs.Compared.{IsCompared};
+ghost use Rattle.replay.specs.Notes.{AreNoted, IsNoted, NotesBoth};
 ghost use Rattle.replay.specs.Counts.{AreCounted, HasCounted, IsCounted, one_more};
 ghost use Rattle.replay.specs.Held.{IsReply};
 ghost use Rattle.replay.specs.LastLines.{fault_line, last_lines};
 ghost use Rattle.replay.specs.Same.{AreSameDocuments, AreSameMessages};
 
+use crate::carrying::{carried, note_answer};
 use crate::channel::Broken;
 use crate::content::{are_same_answers, write_answer};
+use crate::cursors::Cursors;
 use crate::finding::Finding;
 use crate::input_fault::InputFault;
 use crate::tally::Tally;
@@ -88,18 +93,22 @@ impl<'a, W: Write + Drop> Teller<'a, W> {
         writeln!(self.out, "{number} {what} id {}", request.cast_signed())
     }
 
-    /// Tells what was found of an answer on the connection of this number, and counts it.
+    /// Tells what was found of an answer on the connection of this number, and counts it. Notes the
+    /// id on the server of a cursor in an answer that was compared.
     ///
     /// # Errors
     ///
     /// Returns an error if writing fails or memory runs out.
-    pub fn tell(&mut self, number: u64, finding: &Finding) -> io::Result<()>
+    pub fn tell(&mut self, number: u64, finding: &Finding, cursors: &mut Cursors) -> io::Result<()>
         ensures counted { OnOk result (IsCounted finding.now self.old.tally self.new.tally) }
+        ensures noted { OnOk result
+            (IsNoted finding.now cursors.old.list.items cursors.new.list.items) }
         ensures names { self.new.names ≡ self.old.names }
     {
         match finding {
             Finding::Compare { recorded, received } => {
-                self.compare(number, recorded.request, &recorded.bytes, &received.bytes)
+                let request = recorded.request;
+                self.compare_carried(number, request, &recorded.bytes, &received.bytes, cursors)
             }
             Finding::Missing(recorded) => {
                 self.tell_missing(number, recorded.request, &recorded.bytes)
@@ -116,23 +125,58 @@ impl<'a, W: Write + Drop> Teller<'a, W> {
         }
     }
 
-    /// Tells what was found on the connection of this number, in order, and counts it. Nothing is
-    /// left of it.
+    /// Tells what was found on the connection of this number, in order, and counts it. Notes the ids
+    /// on the server of the cursors in it. Nothing is left of what was found.
     ///
     /// # Errors
     ///
     /// Returns an error if writing fails or memory runs out.
-    pub fn tell_all(&mut self, number: u64, findings: &mut Vec<Finding>) -> io::Result<()>
+    pub fn tell_all(
+        &mut self,
+        number: u64,
+        findings: &mut Vec<Finding>,
+        cursors: &mut Cursors,
+    ) -> io::Result<()>
         ensures counted { OnOk result
             (AreCounted findings.old.items self.old.tally self.new.tally) }
+        ensures noted { OnOk result (AreNoted findings.old.items
+            cursors.old.list.items cursors.new.list.items) }
         ensures told { OnOk result (findings.new.items ≡ []) }
         ensures names { self.new.names ≡ self.old.names }
     {
         for finding in findings.iter() {
-            self.tell(number, finding)?;
+            self.tell(number, finding, cursors)?;
         }
         findings.clear();
         Ok(())
+    }
+
+    /// Notes the id on the server of the cursor in a recorded answer, by the one that came in its
+    /// place. Then compares that with the recorded one, in which the ids of cursors are those on the
+    /// server, and tells that they differ if they do.
+    fn compare_carried(
+        &mut self,
+        number: u64,
+        request: u32,
+        recorded: &[u8],
+        received: &[u8],
+        cursors: &mut Cursors,
+    ) -> io::Result<()>
+        ensures compared { OnOk result ((carried : List ℕ)
+            × IsCarried cursors.new.list.items recorded.now carried
+            × IsCompared (map (λ n. n.now) self.old.names.now) carried received.now
+            self.old.tally self.new.tally) }
+        ensures noted { OnOk result (NotesBoth recorded.now received.now
+            cursors.old.list.items cursors.new.list.items) }
+        ensures one { OnOk result ((self.new.tally
+            ≡ record self.old.tally { same = one_more self.old.tally.same })
+            ⊎ (self.new.tally
+            ≡ record self.old.tally { different = one_more self.old.tally.different })) }
+        ensures names { self.new.names ≡ self.old.names }
+    {
+        note_answer(cursors, recorded, received)?;
+        let bytes = carried(self.alloc, cursors, recorded)?;
+        self.compare(number, request, &bytes, received)
     }
 
     /// Compares the recorded answer to this request with the one that came, on the connection of

@@ -1,16 +1,13 @@
-use Rattle.std.proofs.Common.{◌∙◌, ap, subst}
-use Rattle.replay.specs.Gives.{GivesOver}
-use Rattle.replay.specs.declared.conn.Conn.{Conn}
-use Rattle.wire_frames.specs.{frame_bytes}
-use Rattle.replay.proofs.Placing.{found_at, went_well}
+use Rattle.std.proofs.Common.{List, ℕ, subst, sym}
+use Rattle.replay.specs.Carried.{IsCarried}
+use Rattle.replay.proofs.Placing.{also_well}
 use Rattle.replay.proofs.lanes.Lanes.send.Goals as goal
 
 pub returns-clause-given : goal.returns-clause-given
-returns-clause-given g c = λ x at.
-    let same = found_at c.args.self.now.conns.items c.args.i c.in-Some.conn.now x c.in-Some.ensures.value at in (
-      c.send-done.new.self,
-      c.in_ok-tell.ensures.conns,
-      c.send-done.ensures.number ∙ ap (λ (k : Conn g.row.L.Denot). k.number) same,
-      subst (λ (k : Conn g.row.L.Denot). GivesOver (λ d. g.L.Link.sent d.link) (λ d. d.waiting) k.channel c.send-done.new.self.channel (frame_bytes c.args.frame)) same
-          (went_well c.send-done.result _ c.in_ok-tell.ensures.done c.send-done.ensures.given),
-    )
+returns-clause-given g c =
+    also_well c.send_as.result _ _ (λ given. (
+      c.deref.result.now,
+      subst (λ (b : List ℕ). IsCarried c.args.self.now.cursors.list.items b c.deref.result.now) c.as_bytes.ensures
+          (subst (λ (b : List ℕ). IsCarried c.args.self.now.cursors.list.items c.as_bytes.result.now b) (sym c.deref.ensures.value) c.in_ok-sent.ensures),
+      given,
+    )) c.send_as.ensures.given
