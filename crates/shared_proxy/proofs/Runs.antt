@@ -4,7 +4,7 @@ use Rattle.wire_share.specs.Cores.{CoreAct, CoreRun, CoreSeen}
 use Rattle.wire_share.specs.Running.{IsRun, seen}
 use Rattle.wire_share.specs.declared.shared_core.Core.{Core}
 
-runs_on : (acts more : List CoreAct) (old mid new : CoreSeen) → CoreRun old acts mid → CoreRun mid more new → CoreRun old (acts ++ more) new
+pub runs_on : (acts more : List CoreAct) (old mid new : CoreSeen) → CoreRun old acts mid → CoreRun mid more new → CoreRun old (acts ++ more) new
 runs_on [] more old mid new run rest = subst (λ (s : CoreSeen). CoreRun s more new) run rest
 runs_on (act ∷ acts) more old mid new run rest = (run.0, run.1, runs_on acts more run.0 mid new run.2 rest)
 

@@ -6,3 +6,5 @@ pub mod Clients
 pub mod Connecting
 pub mod Steering
 pub mod Shares
+pub mod Closing
+pub mod Passing

@@ -11,6 +11,7 @@
 
 mod client;
 mod clients;
+mod closing;
 mod connector;
 mod leave;
 mod line;

@@ -4,23 +4,25 @@
 
 ghost use Rattle.std.specs.Prelude.{◌≡◌, ℕ, ◌⊎◌, [], IfOk, IfSome, IsSome, None, Ok};
 ghost use Rattle.std.specs.Prelude.{Err, IsSomeAnd, OnOk, Some, false, nat_eq, true};
-ghost use Rattle.indexmap.specs.IndexMap.{Updates, get};
-ghost use Rattle.sockets.specs.{IsReady};
+ghost use Rattle.indexmap.specs.IndexMap.{get};
+ghost use Rattle.wire_msg.specs.{Message};
 ghost use Rattle.wire_serve.specs.{state_of};
-ghost use Rattle.wire_share.specs.Cores.{CoreDoes, Finishes, LosesUp, OpensDown, OpensUp};
-ghost use Rattle.wire_share.specs.Cores.{new_core};
+ghost use Rattle.wire_share.specs.Cores.{CoreDoes, OpensDown, OpensUp, new_core};
 ghost use Rattle.wire_share.specs.Routing.{found};
 ghost use Rattle.wire_share.specs.Running.{IsRun, seen};
+ghost use Rattle.wire_share.specs.declared.awaited.Awaited.{Awaited};
 ghost use Rattle.wire_share.specs.declared.client.Client as connections;
-ghost use Rattle.wire_share.specs.declared.server.Server as upstreams;
+ghost use Rattle.shared_proxy.specs.Closing.{IsClosed};
 ghost use Rattle.shared_proxy.specs.Leaving.{leave_of_state, wants_memory};
+ghost use Rattle.shared_proxy.specs.Passing.{Asks, AwaitsCall, GoesOver, IsBlocked, IsNoted};
+ghost use Rattle.shared_proxy.specs.Passing.{IsRefused, NoneAsks, PassesOn, Places, Went};
 ghost use Rattle.shared_proxy.specs.Queues.{is_full};
-ghost use Rattle.shared_proxy.specs.Shares.{SameClients, SameNumbers, has_to_wait, unblocked};
+ghost use Rattle.shared_proxy.specs.Shares.{SameClients, SameNumbers, has_to_wait};
 
 use crate::clients::Clients;
 use crate::connector::Connector;
 use crate::leave::Leave;
-use crate::server::{Server, is_full};
+use crate::server::is_full;
 use crate::servers::Servers;
 use crate::side::Side;
 use crate::steering::steer_reply;
@@ -141,224 +143,12 @@ impl Sharing {
         }
     }
 
-    /// Closes a connection to the server, with which its cursors and transactions are lost. Returns
-    /// it.
-    pub fn drop_server(&mut self, upstream: u64) -> Option<Server>
-        ensures run { IsRun self.old.core self.new.core }
-        ensures lost { (y : upstreams.Server) → (seen self.old.core).ups upstream ≡ Some y
-            → CoreDoes (LosesUp upstream) (seen self.old.core) (seen self.new.core) }
-        ensures was { result ≡ get nat_eq self.old.servers.map upstream }
-        ensures gone { Updates nat_eq self.old.servers.map self.new.servers.map upstream None }
-        ensures same { SameClients self.old self.new }
-        ensures due { self.new.due ≡ self.old.due }
-    {
-        self.core.lose(upstream);
-        self.servers.close(upstream)
-    }
-
-    /// Closes a connection to the server behind the calls over it, since what used it is over. The
-    /// requests that wait for it go over others.
-    fn finish(&mut self, upstream: u64) -> Result<(), AllocError>
-        ensures run { IsRun self.old.core self.new.core }
-        ensures finished { (y : upstreams.Server) → (seen self.old.core).ups upstream ≡ Some y
-            → CoreDoes (Finishes upstream) (seen self.old.core) (seen self.new.core) }
-        ensures same { SameClients self.old self.new }
-    {
-        self.core.finish(upstream);
-        let Some(server) = self.servers.map.get_mut(&upstream) else {
-            return Ok(());
-        };
-        for number in server.blocked.iter() {
-            self.due.push(Side::Client(*number).token())?;
-        }
-        server.blocked.clear();
-        self.due.push(Side::Server(upstream).token())
-    }
-
-    /// Closes a connection to the server that a client used which is gone: its own at once, if nothing
-    /// waits to be sent over it, and else behind what does.
-    fn leave_server(&mut self, upstream: u64) -> Result<(), AllocError>
-        ensures run { IsRun self.old.core self.new.core }
-        ensures same { SameClients self.old self.new }
-    {
-        if !self.core.has_transaction(upstream) && self.core.server_output(upstream).is_empty() {
-            let _ = self.drop_server(upstream);
-            return Ok(());
-        }
-        self.finish(upstream)
-    }
-
-    /// Closes the connection of the session's earlier transaction, if it has one, where the request of
-    /// a client begins the next one.
-    fn end_earlier(&mut self, number: u64) -> Result<(), AllocError>
-        ensures run { IsRun self.old.core self.new.core }
-        ensures same { SameClients self.old self.new }
-    {
-        match self.core.earlier(number) {
-            Some(upstream) => self.finish(upstream),
-            None => Ok(()),
-        }
-    }
-
-    /// Closes the connections to the server that only a client used which is gone, and those for the
-    /// transactions that it began. What still comes of these goes over others.
-    fn leave_servers(&mut self, number: u64) -> Result<(), AllocError>
-        ensures run { IsRun self.old.core self.new.core }
-        ensures same { SameClients self.old self.new }
-    {
-        for _ in 0..u64::MAX {
-            match self.core.used_by(number) {
-                Some(upstream) => self.leave_server(upstream)?,
-                None => break,
-            }
-        }
-        Ok(())
-    }
-
-    /// Lets the requests that wait for a connection go on without that of a client, which is gone, if
-    /// it waited for one.
-    fn leave_queue(&mut self, number: u64, waits_at: Option<u64>) -> Result<(), AllocError>
-        ensures core { self.new.core ≡ self.old.core }
-        ensures same { SameClients self.old self.new }
-    {
-        let Some(upstream) = waits_at else {
-            return Ok(());
-        };
-        if let Some(server) = self.servers.map.get_mut(&upstream) {
-            server.unblock(number);
-        }
-        self.unblock(upstream)
-    }
-
-    /// Closes a client, for this reason, and the connections to the server that it alone uses, or
-    /// that are for transactions that it began.
-    ///
-    /// # Errors
-    ///
-    /// Returns an error if memory runs out or writing fails.
-    pub fn close<W: Write>(&mut self, number: u64, leave: Leave, out: &mut W) -> io::Result<()>
-        ensures run { IsRun self.old.core self.new.core }
-        ensures gone { Updates nat_eq self.old.clients.map self.new.clients.map number None }
-        ensures ready { IsReady self.new.connector.acceptor }
-    {
-        self.connector.resume();
-        self.delays.forget(number as usize);
-        self.core.close(number);
-        let Some(client) = self.clients.close(number, leave, out)? else {
-            return Ok(());
-        };
-        let waits_at = client.waits_at;
-        drop(client);
-        self.leave_queue(number, waits_at)?;
-        Ok(self.leave_servers(number)?)
-    }
-
-    /// Writes why a connection to the server is lost, but that the server ended it only where
-    /// connections are told of.
-    fn tell_lost<W: Write>(&self, upstream: u64, leave: Leave, out: &mut W) -> io::Result<()>
-        ensures silent { self.now.clients.watching.told ≡ false → leave ≡ Leave.Ended
-            → (result ≡ Ok tt) × (out.new ≡ out.old) }
-    {
-        if self.clients.are_told() || !matches!(leave, Leave::Ended) {
-            writeln!(out, "upstream {upstream} {leave}")?;
-        }
-        Ok(())
-    }
-
-    /// Closes the clients that awaited a reply of a connection to the server, which is lost.
-    fn close_lost<W: Write>(
-        &mut self,
-        server: &Server,
-        upstream: u64,
-        out: &mut W,
-    ) -> io::Result<()>
-        ensures run { IsRun self.old.core self.new.core }
-    {
-        for number in server.callers.values() {
-            if self.core.client(*number).is_none() {
-                self.close(*number, Leave::Lost(upstream), out)?;
-            }
-        }
-        Ok(())
-    }
-
-    /// Has the client take a turn that alone used a connection to the server, which is lost, if one
-    /// did.
-    fn wake_owner(&mut self, owner: Option<u64>) -> Result<(), AllocError>
-        ensures core { self.new.core ≡ self.old.core }
-        ensures servers { self.new.servers ≡ self.old.servers }
-        ensures same { SameClients self.old self.new }
-    {
-        match owner {
-            Some(number) => self.due.push(Side::Client(number).token()),
-            None => Ok(()),
-        }
-    }
-
-    /// Has the clients take a turn whose requests waited for a connection to the server, which is lost.
-    fn wake(&mut self, server: &Server) -> Result<(), AllocError>
-        ensures core { self.new.core ≡ self.old.core }
-        ensures servers { self.new.servers ≡ self.old.servers }
-        ensures same { SameClients self.old self.new }
-    {
-        for number in server.blocked.iter() {
-            self.due.push(Side::Client(*number).token())?;
-        }
-        Ok(())
-    }
-
-    /// Closes a connection to the server, for this reason, and all clients that await a reply of it.
-    /// Why is written, too, but that the server ended it only where connections are told of. The client
-    /// that alone uses it takes a turn, to leave.
-    ///
-    /// # Errors
-    ///
-    /// Returns an error if writing fails.
-    pub fn lose<W: Write>(&mut self, upstream: u64, leave: Leave, out: &mut W) -> io::Result<()>
-        ensures run { IsRun self.old.core self.new.core }
-        ensures none { get nat_eq self.old.servers.map upstream ≡ None
-            → (result ≡ Ok tt) × (self.new.clients ≡ self.old.clients) × (out.new ≡ out.old) }
-    {
-        let owner = self.core.owner(upstream);
-        let Some(server) = self.drop_server(upstream) else {
-            return Ok(());
-        };
-        self.tell_lost(upstream, leave, out)?;
-        self.close_lost(&server, upstream, out)?;
-        self.wake_owner(owner)?;
-        Ok(self.wake(&server)?)
-    }
-
-    /// Has the client take a turn whose request is the first one that waits for a connection, if it may
-    /// be passed on now.
-    ///
-    /// # Errors
-    ///
-    /// Returns `AllocError` if memory runs out.
-    pub fn unblock(&mut self, upstream: u64) -> Result<(), AllocError>
-        ensures due { OnOk result (self.new.due.keys.items
-            ≡ unblocked (is_full self.old.core upstream)
-            (get nat_eq self.old.servers.map upstream) self.old.due.keys.items) }
-        ensures core { self.new.core ≡ self.old.core }
-        ensures servers { self.new.servers ≡ self.old.servers }
-        ensures same { SameClients self.old self.new }
-    {
-        let Some(server) = self.servers.map.get(&upstream) else {
-            return Ok(());
-        };
-        match server.blocked.front() {
-            Some(number) if !is_full(&self.core, upstream) => self
-                .due
-                .push(Side::Client(*number).token()),
-            _ => Ok(()),
-        }
-    }
-
     /// Opens a connection to the server that is used so, and returns its number. If that fails, a
     /// request that needs none of its own, and one that begins a transaction, goes over a shared one,
     /// if there is one.
     fn open(&mut self, net: &impl Net, used: Use) -> Result<Result<u64, Leave>, AllocError>
         ensures run { IsRun self.old.core self.new.core }
+        ensures places { Places self.old.core self.new.core }
         ensures opened { (upstream : ℕ) → result ≡ Ok (Ok upstream)
             → CoreDoes (OpensUp upstream used) (seen self.old.core) (seen self.new.core)
             ⊎ (self.new.core ≡ self.old.core) }
@@ -380,20 +170,14 @@ impl Sharing {
         }
     }
 
-    /// Returns over which connection the request of a client goes: the one for which it waits, if that
-    /// still serves it, and a new one if it has to be.
-    fn place(&mut self, net: &impl Net, number: u64) -> Result<Result<u64, Leave>, AllocError>
+    /// Returns over which connection the request of a client goes that waits for none, and a new one
+    /// if it has to be. Closes that of the session's earlier transaction, if it begins the next one.
+    #[tactic(auto, using(crate::proofs::Runs::run_on, crate::proofs::Runs::run_none, crate::proofs::Placings::places_none, crate::proofs::Placings::ends_places))]
+    fn place_anew(&mut self, net: &impl Net, number: u64) -> Result<Result<u64, Leave>, AllocError>
         ensures run { IsRun self.old.core self.new.core }
+        ensures places { Places self.old.core self.new.core }
         ensures same { SameClients self.old self.new }
     {
-        let Some(client) = self.clients.map.get(&number) else {
-            return Ok(Err(Leave::Ended));
-        };
-        if let Some(upstream) = client.waits_at
-            && self.core.may_go(number, upstream)
-        {
-            return Ok(Ok(upstream));
-        }
         self.end_earlier(number)?;
         match self
             .core
@@ -406,26 +190,55 @@ impl Sharing {
         }
     }
 
-    /// Notes who awaits the reply to a request that was passed on, and where the connection is cut,
-    /// if the script says so: behind the `before` bytes that waited before it.
-    fn note(&mut self, number: u64, upstream: u64, before: usize) -> Result<(), AllocError>
+    /// Returns over which connection the request of a client goes: the one for which it waits, if that
+    /// still serves it, and a new one if it has to be.
+    #[tactic(auto, using(crate::proofs::Runs::run_on, crate::proofs::Runs::run_none, crate::proofs::Placings::places_none, crate::proofs::Placings::ends_places))]
+    fn place(&mut self, net: &impl Net, number: u64) -> Result<Result<u64, Leave>, AllocError>
+        ensures run { IsRun self.old.core self.new.core }
+        ensures places { Places self.old.core self.new.core }
+        ensures same { SameClients self.old self.new }
+    {
+        let Some(client) = self.clients.map.get(&number) else {
+            return Ok(Err(Leave::Ended));
+        };
+        if let Some(upstream) = client.waits_at
+            && self.core.may_go(number, upstream)
+        {
+            return Ok(Ok(upstream));
+        }
+        self.place_anew(net, number)
+    }
+
+    /// Cuts a connection, if the script says so of the request of a client that was passed on over
+    /// it: behind the `before` bytes that waited before the request.
+    fn cut_up(&mut self, number: u64, upstream: u64, before: usize)
         ensures core { self.new.core ≡ self.old.core }
         ensures due { self.new.due ≡ self.old.due }
         ensures same { SameNumbers self.old self.new }
     {
-        if wants_memory(&self.core, number) {
-            return Err(AllocError);
-        }
         let Some(client) = self.clients.map.get_mut(&number) else {
-            return Ok(());
+            return;
         };
         let Some(server) = self.servers.map.get_mut(&upstream) else {
-            return Ok(());
+            return;
         };
         if let Some(count) = client.steering.cut_up {
             client.steering.cut_up = None;
             server.cut_behind(before, self.core.server_output(upstream).len(), count);
         }
+    }
+
+    /// Notes that a client awaits the reply to its call over this connection, if it does.
+    fn note_caller(&mut self, number: u64, upstream: u64) -> Result<(), AllocError>
+        ensures noted { OnOk result ((call : Awaited) → AwaitsCall self.old.core number call
+            → IsNoted call.call number upstream self.new.servers) }
+        ensures core { self.new.core ≡ self.old.core }
+        ensures due { self.new.due ≡ self.old.due }
+        ensures same { SameClients self.old self.new }
+    {
+        let Some(server) = self.servers.map.get_mut(&upstream) else {
+            return Ok(());
+        };
         match self.core.client(number) {
             Some(client) => match client.awaited() {
                 Some(awaited) => server.note(awaited.call, number),
@@ -435,10 +248,30 @@ impl Sharing {
         }
     }
 
+    /// Notes who awaits the reply to a request that was passed on, and where the connection is cut,
+    /// if the script says so: behind the `before` bytes that waited before it.
+    fn note(&mut self, number: u64, upstream: u64, before: usize) -> Result<(), AllocError>
+        ensures noted { OnOk result ((call : Awaited) → AwaitsCall self.old.core number call
+            → IsNoted call.call number upstream self.new.servers) }
+        ensures core { self.new.core ≡ self.old.core }
+        ensures due { self.new.due ≡ self.old.due }
+        ensures same { SameNumbers self.old self.new }
+    {
+        if wants_memory(&self.core, number) {
+            return Err(AllocError);
+        }
+        self.cut_up(number, upstream, before);
+        self.note_caller(number, upstream)
+    }
+
     /// Passes the request of a client on over this connection. Returns why the client is to be closed,
     /// if it is.
     fn pass_on(&mut self, number: u64, upstream: u64) -> Result<Option<Leave>, AllocError>
         ensures run { IsRun self.old.core self.new.core }
+        ensures passed { result ≡ Ok None → GoesOver number upstream self.old.core self.new.core
+            ⊎ NoneAsks number self.old.core self.new.core }
+        ensures refused { (leave : Leave) → result ≡ Ok (Some leave)
+            → seen self.new.core ≡ seen self.old.core }
         ensures same { SameNumbers self.old self.new }
     {
         let before = self.core.server_output(upstream).len();
@@ -468,6 +301,7 @@ impl Sharing {
             ≡ has_to_wait (is_full self.old.core upstream) number
             (get nat_eq self.old.clients.map number)
             (get nat_eq self.old.servers.map upstream)) }
+        ensures blocked { result ≡ Ok true → IsBlocked number upstream self.new }
         ensures core { self.new.core ≡ self.old.core }
         ensures due { self.new.due ≡ self.old.due }
         ensures same { SameNumbers self.old self.new }
@@ -497,6 +331,7 @@ impl Sharing {
         out: &mut W,
     ) -> io::Result<()>
         ensures run { IsRun self.old.core self.new.core }
+        ensures closed { (why : Leave) → leave ≡ Some why → IsClosed number self.old self.new }
         ensures none { leave ≡ None
             → (result ≡ Ok tt) × (self.new ≡ self.old) × (out.new ≡ out.old) }
     {
@@ -510,6 +345,9 @@ impl Sharing {
     /// follow. Returns false if it waits.
     fn pass_over<W: Write>(&mut self, number: u64, upstream: u64, out: &mut W) -> io::Result<bool>
         ensures run { IsRun self.old.core self.new.core }
+        ensures went { result ≡ Ok true → Went number upstream self.old self.new }
+        ensures waits { result ≡ Ok false
+            → IsBlocked number upstream self.new × (self.new.core ≡ self.old.core) }
     {
         if self.waits(number, upstream)? {
             return Ok(false);
@@ -527,6 +365,10 @@ impl Sharing {
     /// Returns an error if memory runs out or writing fails.
     pub fn pass<W: Write>(&mut self, net: &impl Net, number: u64, out: &mut W) -> io::Result<bool>
         ensures run { IsRun self.old.core self.new.core }
+        ensures passed { (m : Message) → Asks (seen self.old.core) number m → result ≡ Ok true
+            → PassesOn number self.old.core self.new.core ⊎ IsRefused number self.old self.new }
+        ensures waits { result ≡ Ok false → ((upstream : ℕ) × IsBlocked number upstream self.new)
+            ⊎ IsRefused number self.old self.new }
     {
         match self.place(net, number)? {
             Ok(upstream) => self.pass_over(number, upstream, out),
